@@ -1,0 +1,22 @@
+// The braking distance.
+ghost use mathlib.Core.Path.{_≡_};
+ghost use Prim.Native.Nat.{_≤_};
+ghost use Rattle.braking.specs.Braking.{S};
+
+// S(speed) at the rate `braking`: the falling speed is kept, and lowered by the rate each turn, to 0 at the last.
+pub fn braking_distance(speed: u16, braking: u16) -> u32
+    requires { ⌜ 1 ≤ braking ⌝ }
+    ensures { λ r. ⌜ r ≡ S braking speed ⌝ }
+{
+    let mut falling: u16 = speed;
+    let mut sum: u32 = 0;
+    while 0 < falling {
+        sum += falling as u32;
+        if braking < falling {
+            falling -= braking;
+        } else {
+            falling = 0;
+        }
+    }
+    sum
+}

@@ -1,0 +1,66 @@
+-- Laws of entries by number, of `each` and of `tabulate`.
+use mathlib.Core.Path.{_≡_, refl, sym, ap, _∙_}
+use mathlib.Core.List.{List, [], _∷_, map}
+use Prim.Native.Nat.{ℕ, zero, suc, _+_, _-_, _≤_, _<_}
+use native.Mathlib.Nat.{le-of-suc-le-suc, not-suc-le-zero}
+use native.Mathlib.Numerals.{add-one}
+use native.Mathlib.Omega.{arith}
+use lib.ListN.{length, getD, length-map, List·getD-eq-default}
+use Rattle.lists.specs.Words.{nth, each, tabulate}
+
+module _ {A : Type 0} (none : A) where
+  pub nth-zero : (l : List A) (n : ℕ) → n ≡ 0 → nth none l n ≡ none
+  unfolding nth
+  nth-zero l n e = rw e
+
+  -- the entry of number n stands at the index n - 1
+  pub nth-in : (l : List A) (n : ℕ) → 1 ≤ n → nth none l n ≡ getD l (n - 1) none
+  unfolding nth
+  nth-in l zero h = absurd (not-suc-le-zero h)
+  nth-in l (suc n) h = ap (λ (k : ℕ). getD l k none) (omega arith)
+
+  pub nth-index : (l : List A) (i : ℕ) → nth none l (i + 1) ≡ getD l i none
+  unfolding nth
+  nth-index l i = rw add-one
+
+  pub nth-out : (l : List A) (n : ℕ) → length l < n → nth none l n ≡ none
+  nth-out l n h = nth-in l n (omega arith) ∙ List·getD-eq-default l none (omega arith)
+
+module _ {A B : Type 0} where
+  pub length-each : (f : ℕ → A → B) (l : List A) → length (each f l) ≡ length l
+  unfolding each
+  length-each f [] = refl
+  length-each f (x ∷ l) = ap suc (length-each (λ (n : ℕ). f (suc n)) l)
+
+  -- an entry of `each`, where f makes of the entry that stands for none the one that stands for none: no length is asked
+  pub nth-each : (a : A) (b : B) (f : ℕ → A → B) (l : List A) (n : ℕ) → ((k : ℕ) → f k a ≡ b) → 1 ≤ n → nth b (each f l) n ≡ f n (nth a l n)
+  unfolding nth each
+  nth-each a b f l zero h p = absurd (not-suc-le-zero p)
+  nth-each a b f [] (suc n) h p = sym (h (suc n))
+  nth-each a b f (x ∷ l) (suc zero) h p = refl
+  nth-each a b f (x ∷ l) (suc (suc n)) h p = nth-each a b (λ (k : ℕ). f (suc k)) l (suc n) (λ k. h (suc k)) (omega arith)
+
+module _ {A : Type 0} where
+  pub length-tabulate : (n : ℕ) (f : ℕ → A) → length (tabulate n f) ≡ n
+  unfolding tabulate
+  length-tabulate zero f = refl
+  length-tabulate (suc n) f = ap suc (length-tabulate n (λ (k : ℕ). f (suc k)))
+
+  pub nth-tabulate : (none : A) (n : ℕ) (f : ℕ → A) (k : ℕ) → 1 ≤ k → k ≤ n → nth none (tabulate n f) k ≡ f k
+  unfolding nth tabulate
+  nth-tabulate none n f zero h g = absurd (not-suc-le-zero h)
+  nth-tabulate none zero f (suc k) h g = absurd (not-suc-le-zero g)
+  nth-tabulate none (suc n) f (suc zero) h g = refl
+  nth-tabulate none (suc n) f (suc (suc k)) h g = nth-tabulate none n (λ (j : ℕ). f (suc j)) (suc k) (omega arith) (le-of-suc-le-suc g)
+
+  -- `each` with a function that looks only at the number
+  pub each-tabulate : {B : Type 0} (f : ℕ → A) (l : List B) (n : ℕ) → length l ≡ n → each (λ (k : ℕ) (x : B). f k) l ≡ tabulate n f
+  unfolding each tabulate
+  each-tabulate f [] zero e = refl
+  each-tabulate f [] (suc n) e = absurd (omega arith)
+  each-tabulate f (x ∷ l) zero e = absurd (omega arith)
+  each-tabulate f (x ∷ l) (suc n) e = ap (λ (r : List A). f 1 ∷ r) (each-tabulate (λ (k : ℕ). f (suc k)) l n (omega arith))
+
+-- the length of an array of structs, which owning it tells of the list mapped by the type's own reading
+pub long-of : {X Y : Type 0} (g : X → Y) (l : List X) (n : ℕ) → length (map g l) ≡ n → length l ≡ n
+long-of g l n e = sym (length-map l g) ∙ e
