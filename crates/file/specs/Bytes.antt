@@ -1,0 +1,29 @@
+-- Bytes and little-endian numbers. Bytes are counted from 0, as document 01, "The area file", counts them; one past the end reads as 0.
+use Prim.Native.Nat.{ℕ, _+_, _-_, _*_}
+use mathlib.Core.Bool.{Bool}
+use mathlib.Core.List.{List}
+use mathlib.Core.Path.{_≡_}
+use lib.ListN.{getD, take, drop}
+use lib.Dec.{eqb}
+use denote.Ref.{RefT, now, ptr}
+use Rattle.lists.specs.Words.{every}
+
+abbrev pub byteAt : List ℕ → ℕ → ℕ
+byteAt s i = getD s i 0
+
+-- a number of two bytes, and one of four
+abbrev pub half : List ℕ → ℕ → ℕ
+half s i = byteAt s i + 256 * byteAt s (i + 1)
+
+abbrev pub word : List ℕ → ℕ → ℕ
+word s i = half s i + 65536 * half s (i + 2)
+
+-- the bytes from the first to the last place are zero, both included
+unfoldable pub zeros : List ℕ → ℕ → ℕ → Bool
+zeros s first last = every (last + 1 - first) (λ (k : ℕ). eqb (byteAt s (first + k - 1)) 0)
+
+-- a part of lent bytes: what it holds and where it lies, `count` bytes from `start` on
+pub record PartAt (whole part : RefT (List ℕ)) (start count : ℕ) : Type 0 where
+  pub bytes : now part ≡ take count (drop start (now whole))
+  pub block : ptr part .0 ≡ ptr whole .0
+  pub offset : ptr part .1 ≡ start + ptr whole .1

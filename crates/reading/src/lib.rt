@@ -1,0 +1,12 @@
+// From a file to its verdict and its tables, and the route view.
+ghost use mathlib.Core.Path.{_≡_};
+ghost use Rattle.reading.specs.Verdict.{readingOf};
+
+use tables::Tables;
+
+// The number and the place of the first rule that is broken, 0 and 0 where none is, and the tables, all zero where one is.
+pub struct Reading {
+    pub number: u8,
+    pub place: u16,
+    pub tables: Tables,
+}

@@ -1,0 +1,57 @@
+-- What the tables of an area say of a segment and of a route, by their numbers.
+use Prim.Native.Nat.{ℕ, _+_, _-_, _*_}
+use mathlib.Core.Bool.{Bool, _||_}
+use mathlib.Core.List.{List}
+use lib.Dec.{eqb}
+use lib.ListN.{replicate}
+use Rattle.lists.specs.Words.{at}
+use Rattle.tables.specs.declared.Tables.{Tables}
+use Rattle.tables.specs.declared.Segment.{Segment}
+
+-- the two links of segment s in a list of links; 0 for none
+abbrev pub firstLink : List ℕ → ℕ → ℕ
+firstLink links s = at links (2 * s - 1)
+
+abbrev pub secondLink : List ℕ → ℕ → ℕ
+secondLink links s = at links (2 * s)
+
+-- one of the two links of segment s is n
+unfoldable pub linksTo : List ℕ → ℕ → ℕ → Bool
+linksTo links s n = eqb (firstLink links s) n || eqb (secondLink links s) n
+
+-- what the tables keep of the segment record s
+unfoldable pub segmentOf : Tables → ℕ → Segment
+segmentOf T s =
+    record {
+      length = at (T .lengths) s;
+      limit = at (T .limits) s;
+      next1 = firstLink (T .next) s;
+      next2 = secondLink (T .next) s;
+      previous1 = firstLink (T .previous) s;
+      previous2 = secondLink (T .previous) s;
+      flags = at (T .flags) s;
+    }
+
+-- how many segments route r has, and the segment at a place of it, counted from 1; `ways` has 32 bytes a route, the count first
+unfoldable pub countOf : List ℕ → ℕ → ℕ
+countOf ways r = at ways (32 * r - 31)
+
+unfoldable pub segmentAt : List ℕ → ℕ → ℕ → ℕ
+segmentAt ways r p = at ways (32 * r - 31 + p)
+
+-- tables that are all zero
+unfoldable pub blankTables : Tables
+blankTables =
+    record {
+      segments = 0;
+      routes = 0;
+      gmax = 0;
+      braking = 0;
+      margin = 0;
+      lengths = replicate 62 0;
+      limits = replicate 62 0;
+      next = replicate 124 0;
+      previous = replicate 124 0;
+      flags = replicate 62 0;
+      ways = replicate 960 0;
+    }
