@@ -1,8 +1,8 @@
 -- The laws of the loops that count up by one: how each begins, goes on and is over.
 --     a test of every number           invariant  every i p ≡ true       every-more, every-fails
 --     the least number that passes     invariant  least i p ≡ 0          least-more, least-found
---     the first number that fails      invariant  firstFailing i p ≡ 0   failing-more, failing-found
---     an array filled entry by entry   invariant  new ≡ filled f i l old fill-begin, fill-step, fill-over; table-begin, table-step, table-over
+--     the first number that fails      invariant  Scanned n p i          scan-begin, scan-more, scan-found, scan-over
+--     an array filled entry by entry   invariant  new ≡ filled f i l old fill-begin, fill-step, fill-over; table-step, table-over
 --     a fold over the entries          foldl f b (take i l)              fold-more
 use mathlib.Core.Path.{_≡_, refl, sym, ap, _∙_}
 use mathlib.Core.List.{List, [], _∷_, foldl, foldl-append}
@@ -18,7 +18,7 @@ use lib.Seq.{take-suc}
 use Rattle.lists.specs.Words.{if_then_else_, each, tabulate, every, _orElse_, least, firstFailing}
 use Rattle.lists.proofs.Numbered.{each-tabulate}
 use borrow.Author.Tests.{not-true}
-use Rattle.lists.proofs.Cases.{by-test, not-both, cases, lt-or-le}
+use Rattle.lists.proofs.Cases.{by-test, not-both, cases, lt-or-le, test-fails, test-holds}
 
 module _ (p : ℕ → Bool) where
   pub every-none : every 0 p ≡ true
@@ -109,13 +109,13 @@ module _ (ok : ℕ → Bool) where
   not-failing : (k : ℕ) → ok k ≡ false → not (ok k) ≡ true
   not-failing k e = rw e
 
-  pub failing-nothing : firstFailing 0 ok ≡ 0
+  failing-nothing : firstFailing 0 ok ≡ 0
   failing-nothing = least-nothing (λ (k : ℕ). not (ok k))
 
-  pub failing-more : (i : ℕ) → firstFailing i ok ≡ 0 → ok (i + 1) ≡ true → firstFailing (i + 1) ok ≡ 0
+  failing-more : (i : ℕ) → firstFailing i ok ≡ 0 → ok (i + 1) ≡ true → firstFailing (i + 1) ok ≡ 0
   failing-more i before here = least-more (λ (k : ℕ). not (ok k)) i before (not-passing (i + 1) here)
 
-  pub failing-found : (n i : ℕ) → firstFailing i ok ≡ 0 → i < n → ok (i + 1) ≡ false → firstFailing n ok ≡ i + 1
+  failing-found : (n i : ℕ) → firstFailing i ok ≡ 0 → i < n → ok (i + 1) ≡ false → firstFailing n ok ≡ i + 1
   failing-found n i before below here = least-found (λ (k : ℕ). not (ok k)) n i before below (not-failing (i + 1) here)
 
   -- what the first failing number is
@@ -139,6 +139,26 @@ module _ (ok : ℕ → Bool) where
       cases (lt-or-le 0 (firstFailing n ok))
       (λ h. not-both (ok (firstFailing n ok)) (f (firstFailing n ok) h (failing-le n)) (failing-fails n h))
       (λ h. omega arith)
+
+-- a scan of the numbers 1 to n by index, from 0: those up to i pass the test
+pub record Scanned (n : ℕ) (ok : ℕ → Bool) (i : ℕ) : Type 0 where
+  pub most : i ≤ n
+  pub none : firstFailing i ok ≡ 0
+
+pub scan-begin : {n : ℕ} {ok : ℕ → Bool} → Scanned n ok 0
+scan-begin {n} {ok} = record { most = omega arith; none = failing-nothing ok }
+
+module _ {n i : ℕ} {ok : ℕ → Bool} (scanned : Scanned n ok i) where
+  pub scan-over : n ≤ i → 0 ≡ firstFailing n ok
+  scan-over h = let e : i ≡ n = omega arith in sym (rw e at (scanned .none))
+
+  -- r is what the code found of the number i + 1, and tests with `if !r`
+  module _ {r : Bool} (below : i < n) (found : r ≡ ok (i + 1)) where
+    pub scan-more : not r ≡ false → Scanned n ok (i + 1)
+    scan-more e = record { most = omega arith; none = failing-more ok i (scanned .none) (test-holds found e) }
+
+    pub scan-found : not r ≡ true → i + 1 ≡ firstFailing n ok
+    scan-found e = sym (failing-found ok n i (scanned .none) below (test-fails found e))
 
 module _ {A B : Type 0} where
   -- the first n entries of `each f l`, and after them those of `old`: an array that is being filled

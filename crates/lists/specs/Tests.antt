@@ -30,3 +30,8 @@ firstOf (t ∷ ts) = if t .holds then t else firstOf ts
 abbrev pub conditionOf : ℕ → List Test → Bool
 conditionOf n [] = false
 conditionOf n (t ∷ ts) = if eqb (t .number) n then t .holds else conditionOf n ts
+
+-- the place of the test of a number; 0 where the list has no such test
+abbrev pub placeIn : ℕ → List Test → ℕ
+placeIn n [] = 0
+placeIn n (t ∷ ts) = if eqb (t .number) n then t .place else placeIn n ts

@@ -1,3 +1,4 @@
 pub mod Bounds
 pub mod Tables
 pub mod Rules
+pub mod Facts

@@ -5,10 +5,11 @@ use mathlib.Core.List.{List}
 use lib.Dec.{eqb}
 use lib.ListN.{replicate}
 use Rattle.lists.specs.Words.{at}
+use Rattle.braking.specs.Braking.{S}
 use Rattle.tables.specs.declared.Tables.{Tables}
 use Rattle.tables.specs.declared.Segment.{Segment}
 
--- the two links of segment s in a list of links; 0 for none
+-- the two links of segment s in a list of links, two entries a segment; 0 for none
 abbrev pub firstLink : List ℕ → ℕ → ℕ
 firstLink links s = at links (2 * s - 1)
 
@@ -19,18 +20,21 @@ secondLink links s = at links (2 * s)
 unfoldable pub linksTo : List ℕ → ℕ → ℕ → Bool
 linksTo links s n = eqb (firstLink links s) n || eqb (secondLink links s) n
 
--- what the tables keep of the segment record s
-unfoldable pub segmentOf : Tables → ℕ → Segment
-segmentOf T s =
+-- row s of the segments' lists: what is kept of segment record s
+abbrev pub rowOf : (lengths limits next previous flags : List ℕ) → ℕ → Segment
+rowOf lengths limits next previous flags s =
     record {
-      length = at (T .lengths) s;
-      limit = at (T .limits) s;
-      next1 = firstLink (T .next) s;
-      next2 = secondLink (T .next) s;
-      previous1 = firstLink (T .previous) s;
-      previous2 = secondLink (T .previous) s;
-      flags = at (T .flags) s;
+      length = at lengths s;
+      limit = at limits s;
+      next1 = firstLink next s;
+      next2 = secondLink next s;
+      previous1 = firstLink previous s;
+      previous2 = secondLink previous s;
+      flags = at flags s;
     }
+
+abbrev pub segmentOf : Tables → ℕ → Segment
+segmentOf T s = rowOf (T .lengths) (T .limits) (T .next) (T .previous) (T .flags) s
 
 -- how many segments route r has, and the segment at a place of it, counted from 1; `ways` has 32 bytes a route, the count first
 unfoldable pub countOf : List ℕ → ℕ → ℕ
@@ -38,6 +42,10 @@ countOf ways r = at ways (32 * r - 31)
 
 unfoldable pub segmentAt : List ℕ → ℕ → ℕ → ℕ
 segmentAt ways r p = at ways (32 * r - 31 + p)
+
+-- the braking distance in an area: S at the area's rate
+abbrev pub brakingDistance : Tables → ℕ → ℕ
+brakingDistance T v = S (T .braking) v
 
 -- tables that are all zero
 unfoldable pub blankTables : Tables

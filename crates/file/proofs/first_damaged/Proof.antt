@@ -1,12 +1,13 @@
-use Prim.Native.Nat.{ℕ, _-_, _≤_}
-use mathlib.Core.Path.{_≡_, sym}
+use Prim.Native.Nat.{ℕ, _+_, _-_}
+use mathlib.Core.Path.{_≡_}
 use mathlib.Core.Bool.{Bool}
 use mathlib.Core.List.{List}
 use native.Mathlib.Omega.{arith}
 use borrow.Author.Needs.{needs}
 use denote.Ref.{now}
 use Rattle.file.specs.Blocks.{block, intact, firstDamaged}
-use Rattle.file.proofs.Laws.{firstFailingIndex, index-nothing, index-more, index-found}
+use Rattle.lists.proofs.Loops.{Scanned, scan-begin, scan-over, scan-more, scan-found}
+use Rattle.file.proofs.Laws.{byBlock, of-block}
 use Rattle.file.proofs.first_damaged.Statement.{statement}
 use Rattle.file.proofs.first_damaged.Tie as tie
 
@@ -14,13 +15,13 @@ abbrev ok : List ℕ → ℕ → Bool
 ok file k = intact (block file k)
 
 abbrev Inv-loop : tie.InvT-loop
-Inv-loop file k₀ k = (k ≤ 5) × (firstFailingIndex k (ok file) ≡ 0)
+Inv-loop file k₀ k = Scanned 5 (byBlock (ok file)) k
 
 abbrev μ-loop : tie.MeasureT-loop
 μ-loop file k₀ k = 5 - k
 
 loop-holds : tie.Need-loop-holds Inv-loop μ-loop
-loop-holds c = (omega arith, index-nothing (ok (now (c .before .args .file))))
+loop-holds c = scan-begin
 
 block-of-requires : tie.Need-block-of-requires Inv-loop μ-loop
 block-of-requires c κs = search needs
@@ -34,14 +35,14 @@ add-result c = omega arith
 cast-result : tie.Need-cast-result Inv-loop μ-loop
 cast-result c = omega arith
 
-here : (c : tie.After-is-intact Inv-loop μ-loop) → c .is-intact .result ≡ ok (now (c .before .before .before .before .before .args .file)) (c .before .before .before .loop .k)
-here c = rw (c .before .block-of .ensures .0) at (c .is-intact .ensures)
+here :
+    (c : tie.After-is-intact Inv-loop μ-loop)
+    → c .is-intact .result ≡ byBlock (ok (now (c .before .before .before .before .before .args .file))) (c .before .before .before .loop .k + 1)
+here c = of-block (ok _) _ (rw (c .before .block-of .ensures .0) at (c .is-intact .ensures))
 
 returns : tie.Need-returns Inv-loop μ-loop
 unfolding firstDamaged
-returns c =
-    let l = c .before .before .before .before .loop in
-    sym (index-found (ok (now (c .before .before .before .before .before .before .args .file))) (l .k) _ (l .inv .1) (here (c .before)) 5 (omega arith) (c .if1 .taken))
+returns c = scan-found (c .before .before .before .before .loop .inv) (c .before .before .before .loop-test .taken) (here (c .before)) (c .if1 .taken)
 
 add-k : tie.Need-add-k Inv-loop μ-loop
 add-k c = omega arith
@@ -50,16 +51,11 @@ loop-less : tie.Need-loop-less Inv-loop μ-loop
 loop-less c = omega arith
 
 loop-again : tie.Need-loop-again Inv-loop μ-loop
-loop-again c =
-    let l = c .before .before .before .before .loop in
-    (omega arith, index-more (ok (now (c .before .before .before .before .before .before .args .file))) (l .k) _ (l .inv .1) (here (c .before)) (c .if1 .left))
+loop-again c = scan-more (c .before .before .before .before .loop .inv) (c .before .before .before .loop-test .taken) (here (c .before)) (c .if1 .left)
 
 returns-2 : tie.Need-returns-2 Inv-loop μ-loop
 unfolding firstDamaged
-returns-2 c =
-    let l = c .before .loop in
-    let e : l .k ≡ 5 = omega arith in
-    sym (rw e at (l .inv .1))
+returns-2 c = scan-over (c .before .loop .inv) (c .loop-test .left)
 
 pub first-damaged-spec : {M : Type 1} → statement M
 first-damaged-spec =

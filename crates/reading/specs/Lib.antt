@@ -1,3 +1,0 @@
-pub mod Decoding
-pub mod Verdict
-pub mod View

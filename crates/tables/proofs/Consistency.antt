@@ -1,0 +1,135 @@
+-- Tables that meet rules 4 to 10 are consistent.
+use Prim.Native.Nat.{ℕ, zero, suc, _+_, _-_, _≤_, _<_}
+use mathlib.Core.Path.{_≡_, refl, sym, ap, _∙_}
+use mathlib.Core.Bool.{Bool, true, false, not, _&&_, _||_, and-eq-true-iff}
+use mathlib.Core.Logic.{_⊎_, inl, inr}
+use mathlib.Core.List.{List}
+use native.Mathlib.Omega.{arith}
+use lib.Dec.{leb, ltb, eqb}
+use borrow.Author.Tests.{leb-true, ltb-true, eqb-true, le-leb}
+use Rattle.lists.specs.Words.{if_then_else_, at, every}
+use Rattle.lists.proofs.Cases.{cases, and-iff, facts}
+use Rattle.lists.proofs.Loops.{every-at}
+use Rattle.tables.specs.declared.Tables.{Tables}
+use Rattle.tables.specs.Bounds.{mostSegments, mostRoutes, longestRoute, fastest, longest}
+use Rattle.tables.specs.Tables.{firstLink, secondLink, linksTo, segmentOf, countOf, segmentAt, brakingDistance}
+use Rattle.tables.specs.Rules.{headerIn, linksOk, usedOk, unusedOk, rowOk, segmentOk, matched, jointIn, greater, orderIn, gentle, dropIn, stepIn, countIn, routeIn}
+use Rattle.tables.specs.Facts.{Meets, IsSegment, Follows, Consistent}
+
+-- one of two tests holds
+either : (a b : Bool) → (a || b) ≡ true → (a ≡ true) ⊎ (b ≡ true)
+either true b e = inl refl
+either false b e = inr e
+
+-- what holds of each link of a segment that is not 0 holds of every number that it links to
+module _ (links : List ℕ) (p : ℕ → Bool) (s : ℕ) (first : (eqb (firstLink links s) 0 || p (firstLink links s)) ≡ true) (second : (eqb (secondLink links s) 0 || p (secondLink links s)) ≡ true) where
+  one : (l n : ℕ) → (eqb l 0 || p l) ≡ true → eqb l n ≡ true → 1 ≤ n → p n ≡ true
+  one l n h e some =
+      let same : l ≡ n = eqb-true l n e in
+      cases (either (eqb l 0) (p l) h) (λ z. let q : l ≡ 0 = eqb-true l 0 z in absurd (omega arith)) (λ q. rw same at q)
+
+  of-link : (n : ℕ) → linksTo links s n ≡ true → 1 ≤ n → p n ≡ true
+  unfolding linksTo
+  of-link n h some =
+      cases (either (eqb (firstLink links s) n) (eqb (secondLink links s) n) h) (λ e. one (firstLink links s) n first e some) (λ e. one (secondLink links s) n second e some)
+
+module _ (T : Tables) (m : Meets T) where
+  header-facts : ((1 ≤ T .segments) × (T .segments ≤ mostSegments)) × ((1 ≤ T .routes) × (T .routes ≤ mostRoutes)) × (T .gmax ≤ fastest) × (1 ≤ T .braking)
+  unfolding headerIn
+  header-facts = let h = m .header in let f = simp facts at h in omega arith
+
+  used : (s : ℕ) → IsSegment T s → usedOk (T .segments) (T .gmax) (T .margin) (segmentOf T s) ≡ true
+  unfolding rowOk
+  used s i = let f = header-facts in let h = m .segment s (i .from) (omega arith) in rw (le-leb s (T .segments) (i .to)) at h
+
+  used-facts : (s : ℕ) → IsSegment T s → (T .margin + T .gmax < at (T .lengths) s) × (at (T .lengths) s ≤ longest) × (1 ≤ at (T .limits) s) × (at (T .limits) s ≤ T .gmax)
+  unfolding usedOk
+  used-facts s i = let h = used s i in let f = simp facts at h in omega arith
+
+  -- a link of a segment is at most N
+  link-facts : (s : ℕ) → IsSegment T s → (firstLink (T .next) s ≤ T .segments) × (secondLink (T .next) s ≤ T .segments)
+  unfolding usedOk linksOk
+  link-facts s i = let h = used s i in let f = simp facts at h in omega arith
+
+  next-back : (s n : ℕ) → IsSegment T s → 1 ≤ n → linksTo (T .next) s n ≡ true → linksTo (T .previous) n s ≡ true
+  unfolding jointIn matched
+  next-back s n i some l =
+      let h = m .joint s (i .from) (i .to) in
+      let f = simp and-iff at h in
+      of-link (T .next) (λ (k : ℕ). linksTo (T .previous) k s) s (f .0 .0 .0) (f .0 .0 .1) n l some
+
+  previous-forth : (s n : ℕ) → IsSegment T s → 1 ≤ n → linksTo (T .previous) s n ≡ true → linksTo (T .next) n s ≡ true
+  unfolding jointIn matched
+  previous-forth s n i some l =
+      let h = m .joint s (i .from) (i .to) in
+      let f = simp and-iff at h in
+      of-link (T .previous) (λ (k : ℕ). linksTo (T .next) k s) s (f .0 .1) (f .1) n l some
+
+  link-bound : (s n : ℕ) → IsSegment T s → linksTo (T .next) s n ≡ true → n ≤ T .segments
+  unfolding linksTo
+  link-bound s n i l =
+      let f = link-facts s i in
+      cases (either (eqb (firstLink (T .next) s) n) (eqb (secondLink (T .next) s) n) l) (λ e. omega (arith, eqb-true (firstLink (T .next) s) n e)) (λ e. omega (arith, eqb-true (secondLink (T .next) s) n e))
+
+  link-rises : (s n : ℕ) → IsSegment T s → 1 ≤ n → linksTo (T .next) s n ≡ true → s < n
+  unfolding orderIn
+  link-rises s n i some l =
+      let h = m .order s (i .from) (i .to) in
+      let f = simp and-iff at h in
+      ltb-true s n (of-link (T .next) (ltb s) s (f .0) (f .1) n l some)
+
+  link-gentle : (s n : ℕ) → IsSegment T s → 1 ≤ n → linksTo (T .next) s n ≡ true → at (T .limits) s ≤ at (T .limits) n + T .braking
+  unfolding dropIn
+  link-gentle s n i some l =
+      let h = m .drop s (i .from) (i .to) in
+      let f = simp and-iff at h in
+      leb-true _ _ (of-link (T .next) (λ (k : ℕ). leb (at (T .limits) s) (at (T .limits) k + T .braking)) s (f .0) (f .1) n l some)
+
+  route-facts : (r : ℕ) → 1 ≤ r → r ≤ T .routes → (countIn (T .ways) (T .routes) r ≡ true) × (every longestRoute (stepIn (T .next) (T .ways) (T .segments) r) ≡ true)
+  unfolding routeIn
+  route-facts r low high = let f = header-facts in and-eq-true-iff _ _ .0 (m .route r low (omega arith))
+
+  count-facts : (r : ℕ) → 1 ≤ r → r ≤ T .routes → (1 ≤ countOf (T .ways) r) × (countOf (T .ways) r ≤ longestRoute)
+  unfolding countIn
+  count-facts r low high =
+      let h = rw (le-leb r (T .routes) high) at (route-facts r low high .0) in
+      let f = simp facts at h in omega arith
+
+  -- of a place up to the count: its number is 1 to N, and after the first place the segment before links to it
+  step-facts :
+      (r p : ℕ) → 1 ≤ r → r ≤ T .routes → 1 ≤ p → p ≤ countOf (T .ways) r
+      → (IsSegment T (segmentAt (T .ways) r p)) × (2 ≤ p → linksTo (T .next) (segmentAt (T .ways) r (p - 1)) (segmentAt (T .ways) r p) ≡ true)
+  unfolding stepIn
+  step-facts r p low high from to =
+      let c = count-facts r low high in
+      let h = rw (le-leb p (countOf (T .ways) r) to) at (every-at _ longestRoute (route-facts r low high .1) p from (omega arith)) in
+      let f = simp and-iff at h in
+      let s = segmentAt (T .ways) r p in (
+        record { from = leb-true 1 s (f .0 .0); to = leb-true s (T .segments) (f .0 .1) },
+        λ later. cases (either (eqb p 1) _ (f .1)) (λ e. absurd (omega (arith, eqb-true p 1 e))) (λ e. e),
+      )
+
+  pub consistent : Consistent T
+  consistent =
+      record {
+        segments = header-facts .0;
+        routes = header-facts .1;
+        gmax = header-facts .2;
+        rate = header-facts .3;
+        stops = leb-true _ _ (m .margin);
+        long = λ s i. used-facts s i .0;
+        short = λ s i. used-facts s i .1;
+        limited = λ s i. (used-facts s i .2, used-facts s i .3);
+        linked = λ s n i f. link-bound s n i (f .link);
+        back = λ s n i f. next-back s n i (f .some) (f .link);
+        forth = λ s n i some l. previous-forth s n i some l;
+        rises = λ s n i f. link-rises s n i (f .some) (f .link);
+        gentle = λ s n i f. link-gentle s n i (f .some) (f .link);
+        counted = count-facts;
+        placed = λ r p low high from to. step-facts r p low high from to .0;
+        stepped =
+            λ r p low high from to.
+            let s = step-facts r (p + 1) low high (omega arith) (omega arith) in
+            let e : p + 1 - 1 ≡ p = omega arith in
+            record { link = rw e at (s .1 (omega arith)); some = s .0 .from };
+      }

@@ -1,0 +1,50 @@
+-- What rules 4 to 10 come to: that tables meet them, and the facts of such tables that all later proofs start from.
+use Prim.Native.Nat.{ℕ, _+_, _≤_, _<_}
+use mathlib.Core.Path.{_≡_}
+use mathlib.Core.Bool.{true}
+use Rattle.lists.specs.Words.{at}
+use Rattle.tables.specs.declared.Tables.{Tables}
+use Rattle.tables.specs.Bounds.{mostSegments, mostRoutes, longestRoute, fastest, longest}
+use Rattle.tables.specs.Tables.{linksTo, countOf, segmentAt, brakingDistance}
+use Rattle.tables.specs.Rules.{headerOk, marginOk, segmentOk, jointOk, orderOk, dropOk, routeOk}
+
+-- "Tables meet 4 to 10": rules 6 and 10 of all records, rules 7 to 9 of the segments 1 to N
+pub record Meets (T : Tables) : Type 0 where
+  pub header : headerOk T ≡ true
+  pub margin : marginOk T ≡ true
+  pub segment : (s : ℕ) → 1 ≤ s → s ≤ mostSegments → segmentOk T s ≡ true
+  pub joint : (s : ℕ) → 1 ≤ s → s ≤ T .segments → jointOk T s ≡ true
+  pub order : (s : ℕ) → 1 ≤ s → s ≤ T .segments → orderOk T s ≡ true
+  pub drop : (s : ℕ) → 1 ≤ s → s ≤ T .segments → dropOk T s ≡ true
+  pub route : (r : ℕ) → 1 ≤ r → r ≤ mostRoutes → routeOk T r ≡ true
+
+-- a segment of the area; segment n follows segment s: s has the next link n
+pub record IsSegment (T : Tables) (s : ℕ) : Type 0 where
+  pub from : 1 ≤ s
+  pub to : s ≤ T .segments
+
+pub record Follows (T : Tables) (s n : ℕ) : Type 0 where
+  pub link : linksTo (T .next) s n ≡ true
+  pub some : 1 ≤ n
+
+-- the facts of tables that meet the rules
+pub record Consistent (T : Tables) : Type 0 where
+  pub segments : (1 ≤ T .segments) × (T .segments ≤ mostSegments)
+  pub routes : (1 ≤ T .routes) × (T .routes ≤ mostRoutes)
+  pub gmax : T .gmax ≤ fastest
+  pub rate : 1 ≤ T .braking
+  -- a train at top speed stops within the end distance
+  pub stops : brakingDistance T (T .gmax) ≤ T .margin
+  pub long : (s : ℕ) → IsSegment T s → T .margin + T .gmax < at (T .lengths) s
+  pub short : (s : ℕ) → IsSegment T s → at (T .lengths) s ≤ longest
+  pub limited : (s : ℕ) → IsSegment T s → (1 ≤ at (T .limits) s) × (at (T .limits) s ≤ T .gmax)
+  -- links lead to segments of the area, are matched both ways, rise, and drop the limit by at most `b`
+  pub linked : (s n : ℕ) → IsSegment T s → Follows T s n → n ≤ T .segments
+  pub back : (s n : ℕ) → IsSegment T s → Follows T s n → linksTo (T .previous) n s ≡ true
+  pub forth : (s n : ℕ) → IsSegment T s → 1 ≤ n → linksTo (T .previous) s n ≡ true → linksTo (T .next) n s ≡ true
+  pub rises : (s n : ℕ) → IsSegment T s → Follows T s n → s < n
+  pub gentle : (s n : ℕ) → IsSegment T s → Follows T s n → at (T .limits) s ≤ at (T .limits) n + T .braking
+  -- a route has 1 to 31 segments of the area, each linked to the next
+  pub counted : (r : ℕ) → 1 ≤ r → r ≤ T .routes → (1 ≤ countOf (T .ways) r) × (countOf (T .ways) r ≤ longestRoute)
+  pub placed : (r p : ℕ) → 1 ≤ r → r ≤ T .routes → 1 ≤ p → p ≤ countOf (T .ways) r → IsSegment T (segmentAt (T .ways) r p)
+  pub stepped : (r p : ℕ) → 1 ≤ r → r ≤ T .routes → 1 ≤ p → p < countOf (T .ways) r → Follows T (segmentAt (T .ways) r p) (segmentAt (T .ways) r (p + 1))
