@@ -5,7 +5,7 @@ use Prim.Native.Nat.{ℕ, zero, suc, _+_, _-_, _≤_, _<_}
 use native.Mathlib.Nat.{le-of-suc-le-suc, not-suc-le-zero}
 use native.Mathlib.Numerals.{add-one}
 use native.Mathlib.Omega.{arith}
-use lib.ListN.{length, getD, length-map, List·getD-eq-default}
+use lib.ListN.{length, getD, replicate, length-map, List·getD-eq-default}
 use Rattle.lists.specs.Words.{nth, each, tabulate}
 
 module _ {A : Type 0} (none : A) where
@@ -64,3 +64,10 @@ module _ {A : Type 0} where
 -- the length of an array of structs, which owning it tells of the list mapped by the type's own reading
 pub long-of : {X Y : Type 0} (g : X → Y) (l : List X) (n : ℕ) → length (map g l) ≡ n → length l ≡ n
 long-of g l n e = sym (length-map l g) ∙ e
+
+-- a list of nothing but the entry that stands for none
+pub nth-replicate : {A : Type 0} (none : A) (n k : ℕ) → nth none (replicate n none) k ≡ none
+unfolding nth
+nth-replicate none n zero = refl
+nth-replicate none zero (suc k) = refl
+nth-replicate none (suc n) (suc k) = nth-replicate none n k

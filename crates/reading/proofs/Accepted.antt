@@ -1,0 +1,133 @@
+-- A file is accepted if and only if it meets the ten rules; and what a refusal's place is.
+use Prim.Native.Nat.{ℕ, zero, suc, _+_, _-_, _≤_, _<_}
+use mathlib.Core.Path.{_≡_, refl, sym, ap, _∙_}
+use mathlib.Core.Bool.{Bool, true, false, not, _&&_, and-eq-true-iff}
+use mathlib.Core.Logic.{_↔_}
+use mathlib.Core.List.{List, [], _∷_}
+use native.Mathlib.Omega.{arith}
+use lib.Dec.{ltb, eqb}
+use lib.ListN.{length}
+use borrow.Author.Tests.{eqb-true, ltb-true, ltb-false, eq-eqb, le-ltb, not-true, not-false}
+use Rattle.lists.specs.Words.{firstFailing}
+use Rattle.lists.specs.Tests.{Test, firstOf, conditionOf, placeIn}
+use Rattle.lists.proofs.Cases.{by-test, not-both, passed, first-named, first-none, first-number}
+use Rattle.lists.proofs.Loops.{failing-le, failing-fails, failing-before, failing-none, none-failing}
+use Rattle.file.specs.Blocks.{blocks, fileSize, block, intact, filed, firstDamaged, firstMisfiled}
+use Rattle.tables.specs.Bounds.{mostSegments, mostRoutes}
+use Rattle.tables.specs.Rules.{headerOk, marginOk, jointOk, orderOk, dropOk, routeOk}
+use Rattle.reading.specs.Decoding.{decoded}
+use Rattle.reading.specs.Verdict.{headerFiled, recordOk, fileTests, tableTests, verdict, accepted}
+use Rattle.reading.specs.Acceptance.{MeetsRules, LeastBroken, LeastBlock, Placed}
+
+-- the tests of load, in the order of their numbers
+abbrev pub loadTests : List ℕ → List Test
+loadTests file = fileTests file (tableTests file (decoded file))
+
+-- a scan that fails nowhere, or at some number
+module _ (n : ℕ) (ok : ℕ → Bool) where
+  nowhere : ltb 0 (firstFailing n ok) ≡ false → (k : ℕ) → 1 ≤ k → k ≤ n → ok k ≡ true
+  nowhere e = let z : firstFailing n ok ≡ 0 = omega (arith, ltb-false 0 (firstFailing n ok) e) in failing-none ok n z
+
+  nowhere′ : ((k : ℕ) → 1 ≤ k → k ≤ n → ok k ≡ true) → ltb 0 (firstFailing n ok) ≡ false
+  nowhere′ f = le-ltb 0 (firstFailing n ok) (omega (arith, none-failing ok n f))
+
+  somewhere : ltb 0 (firstFailing n ok) ≡ true → LeastBroken n ok (firstFailing n ok)
+  somewhere e =
+      let low = ltb-true 0 (firstFailing n ok) e in
+      record { from = low; to = failing-le ok n; broken = failing-fails ok n low; before = failing-before ok n }
+
+-- the same over blocks, whose numbers are one less
+module _ (ok : ℕ → Bool) where
+  abbrev shifted : ℕ → Bool
+  shifted k = ok (k - 1)
+
+  back : (k : ℕ) (t : Bool) → shifted (k + 1) ≡ t → ok k ≡ t
+  back k t e = let q : k + 1 - 1 ≡ k = omega arith in rw q at e
+
+  no-block : ltb 0 (firstFailing blocks shifted) ≡ false → (k : ℕ) → k < blocks → ok k ≡ true
+  no-block e k below = back k true (nowhere blocks shifted e (k + 1) (omega arith) (omega arith))
+
+  no-block′ : ((k : ℕ) → k < blocks → ok k ≡ true) → ltb 0 (firstFailing blocks shifted) ≡ false
+  no-block′ f = nowhere′ blocks shifted (λ k low high. f (k - 1) (omega arith))
+
+  some-block : ltb 0 (firstFailing blocks shifted) ≡ true → LeastBlock ok (firstFailing blocks shifted - 1)
+  some-block e =
+      let l = somewhere blocks shifted e in
+      record {
+        to = omega (arith, l .from, l .to);
+        broken = l .broken;
+        before = λ j below. back j true (l .before (j + 1) (omega arith) (omega (arith, l .from)));
+      }
+
+module _ (file : List ℕ) where
+  -- the condition of the test of a number does not hold in an accepted file
+  passes : (n : ℕ) → verdict file .holds ≡ false → conditionOf n (loadTests file) ≡ false
+  unfolding verdict
+  passes n e = passed n (loadTests file) e
+
+  accepted-meets : verdict file .holds ≡ false → MeetsRules file
+  unfolding firstDamaged firstMisfiled
+  accepted-meets e =
+      record {
+        size = eqb-true (length file) fileSize (not-false _ (passes 1 e));
+        checks = no-block (λ (k : ℕ). intact (block file k)) (passes 2 e);
+        tails = no-block (λ (k : ℕ). filed (block file k) k) (passes 3 e);
+        header = not-false _ (passes 4 e);
+        margin = not-false _ (passes 5 e);
+        segment = nowhere mostSegments (recordOk file (decoded file)) (passes 6 e);
+        joint = nowhere (decoded file .segments) (jointOk (decoded file)) (passes 7 e);
+        order = nowhere (decoded file .segments) (orderOk (decoded file)) (passes 8 e);
+        drop = nowhere (decoded file .segments) (dropOk (decoded file)) (passes 9 e);
+        route = nowhere mostRoutes (routeOk (decoded file)) (passes 10 e);
+      }
+
+  meets-accepted : MeetsRules file → verdict file .holds ≡ false
+  unfolding verdict firstDamaged firstMisfiled
+  meets-accepted m =
+      let r1 = eq-eqb (length file) fileSize (m .size) in
+      let r2 = no-block′ (λ (k : ℕ). intact (block file k)) (m .checks) in
+      let r3 = no-block′ (λ (k : ℕ). filed (block file k) k) (m .tails) in
+      let r6 = nowhere′ mostSegments (recordOk file (decoded file)) (m .segment) in
+      let r7 = nowhere′ (decoded file .segments) (jointOk (decoded file)) (m .joint) in
+      let r8 = nowhere′ (decoded file .segments) (orderOk (decoded file)) (m .order) in
+      let r9 = nowhere′ (decoded file .segments) (dropOk (decoded file)) (m .drop) in
+      let r10 = nowhere′ mostRoutes (routeOk (decoded file)) (m .route) in
+      simp (r1, r2, r3, m .header, m .margin, r6, r7, r8, r9, r10)
+
+  -- THE CLAIM: accepted if and only if all ten rules hold
+  pub accepted-iff : (accepted file ≡ true) ↔ MeetsRules file
+  accepted-iff = (λ e. accepted-meets (not-true (verdict file .holds) e), λ m. rw (meets-accepted m))
+
+  -- the number is 0 exactly where no rule is broken
+  pub number-zero : eqb (verdict file .number) 0 ≡ accepted file
+  unfolding verdict
+  number-zero = first-number (loadTests file) refl
+
+  none-holds : verdict file .number ≡ 0 → verdict file ≡ record { holds = false; number = 0; place = 0 }
+  unfolding verdict
+  none-holds e = first-none (loadTests file) (not-true _ (sym number-zero ∙ eq-eqb (verdict file .number) 0 e))
+
+  -- a refusal of number n comes of the test of that number
+  named : (n : ℕ) → 1 ≤ n → verdict file .number ≡ n → (conditionOf n (loadTests file) ≡ true) × (verdict file .place ≡ placeIn n (loadTests file))
+  unfolding verdict
+  named n some e =
+      by-test (verdict file .holds) (λ h. first-named n 0 (loadTests file) refl h e)
+      (λ h. let z = ap (λ (t : Test). t .number) (first-none (loadTests file) h) in absurd (omega arith))
+
+  -- THE CLAIM: the place is that of the least block, record, segment or route that breaks the rule
+  pub refusal-placed : Placed file
+  unfolding firstDamaged firstMisfiled
+  refusal-placed =
+      record {
+        done = λ e. ap (λ (t : Test). t .place) (none-holds e);
+        size = λ e. named 1 (omega arith) e .1;
+        damaged = λ e. rw (named 2 (omega arith) e .1) (some-block (λ (k : ℕ). intact (block file k)) (named 2 (omega arith) e .0));
+        misfiled = λ e. rw (named 3 (omega arith) e .1) (some-block (λ (k : ℕ). filed (block file k) k) (named 3 (omega arith) e .0));
+        header = λ e. named 4 (omega arith) e .1;
+        margin = λ e. named 5 (omega arith) e .1;
+        segment = λ e. rw (named 6 (omega arith) e .1) (somewhere mostSegments (recordOk file (decoded file)) (named 6 (omega arith) e .0));
+        joint = λ e. rw (named 7 (omega arith) e .1) (somewhere (decoded file .segments) (jointOk (decoded file)) (named 7 (omega arith) e .0));
+        order = λ e. rw (named 8 (omega arith) e .1) (somewhere (decoded file .segments) (orderOk (decoded file)) (named 8 (omega arith) e .0));
+        drop = λ e. rw (named 9 (omega arith) e .1) (somewhere (decoded file .segments) (dropOk (decoded file)) (named 9 (omega arith) e .0));
+        route = λ e. rw (named 10 (omega arith) e .1) (somewhere mostRoutes (routeOk (decoded file)) (named 10 (omega arith) e .0));
+      }

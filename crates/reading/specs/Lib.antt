@@ -1,0 +1,4 @@
+pub mod Decoding
+pub mod Verdict
+pub mod View
+pub mod Acceptance

@@ -1,0 +1,3 @@
+pub mod Train
+pub mod Steps
+pub mod Sound

@@ -1,0 +1,92 @@
+-- What becomes of one train, and of one segment's allocation, in each call (document 01, "The calls").
+-- T are the tables of the area, A its allocations, t the number of a train, x the train, s the number of a segment, h who holds it.
+use Prim.Native.Nat.{ℕ, _+_, _-_, _/_, _%_, min, max}
+use mathlib.Core.Bool.{Bool, false, not, _&&_}
+use mathlib.Core.List.{List}
+use lib.Dec.{leb, ltb, eqb}
+use Rattle.lists.specs.Words.{if_then_else_, at, least}
+use Rattle.tables.specs.declared.Tables.{Tables}
+use Rattle.tables.specs.Tables.{countOf, segmentAt}
+use Rattle.trains.specs.declared.Train.{Train}
+use Rattle.trains.specs.Train.{mostTrains, withSpeed, withAsking, movedTo, trainAt, isOn, ownOf, ownLength, ownLimit, nextLimit, near, holdsNext, occupied, wanted}
+
+-- *Speed*. Low = max(0, speed - `b`). Not near: up to the segment's limit. Near with next allocated to it: up to the smaller of both
+-- limits. Wishes outside go to the closer end. Near without it: exactly low
+unfoldable pub speedIn : (b limit nextLimit : ℕ) (isNear holds : Bool) (speed wish : ℕ) → ℕ
+speedIn b limit nextLimit isNear holds speed wish =
+    if isNear && not holds
+    then speed - b
+    else max (speed - b) (min (if isNear then min limit nextLimit else limit) wish)
+
+abbrev pub newSpeed : Tables → List ℕ → ℕ → ℕ → Train → ℕ
+newSpeed T A t wish x = speedIn (T .braking) (ownLimit T x) (nextLimit T x) (near T x) (holdsNext T A t x) (x .speed) wish
+
+-- entries of trains off are ignored
+unfoldable pub sped : Tables → List ℕ → List ℕ → ℕ → Train → Train
+sped T A wishes t x = if isOn x then withSpeed x (newSpeed T A t (at wishes t) x) else x
+
+-- *Request*: a near train whose next exists and isn't allocated to it asks
+unfoldable pub wantsIn : (isNear holds : Bool) (next : ℕ) → Bool
+wantsIn isNear holds next = isNear && ltb 0 next && not holds
+
+abbrev pub wants : Tables → List ℕ → ℕ → Train → Bool
+wants T A t x = wantsIn (near T x) (holdsNext T A t x) (wanted T x)
+
+unfoldable pub requested : Tables → List ℕ → ℕ → Train → Train
+requested T A t x = if isOn x then withAsking x (wants T A t x) else x
+
+-- *Grant*: each unallocated segment goes to the least train number asking for it; all asking ends
+unfoldable pub asked : Tables → Train → ℕ
+asked T x = if x .asks then wanted T x else 0
+
+-- who is served first of those that ask for s; 0 where none asks
+unfoldable pub served : Tables → List Train → ℕ → ℕ
+served T trains s = least mostTrains (λ (t : ℕ). eqb (asked T (trainAt trains t)) s)
+
+unfoldable pub granted : Tables → List Train → ℕ → ℕ → ℕ
+granted T trains s h = if eqb h 0 then served T trains s else h
+
+abbrev pub calmed : Train → Train
+calmed x = withAsking x false
+
+-- *Position*: position + speed. At or above the length it moves on: length subtracted, old segment freed
+unfoldable pub movesOn : Tables → Train → Bool
+movesOn T x = isOn x && leb (ownLength T x) (x .position + x .speed)
+
+unfoldable pub moved : Tables → Train → Train
+moved T x =
+    if movesOn T x
+    then movedTo x (x .place + 1) (x .position + x .speed - ownLength T x)
+    else movedTo x (x .place) (x .position + x .speed)
+
+unfoldable pub released : Tables → Train → ℕ → Bool
+released T x s = movesOn T x && occupied T x s
+
+unfoldable pub freed : Tables → List Train → ℕ → ℕ → ℕ
+freed T trains s h = if released T (trainAt trains h) s then 0 else h
+
+-- *Enter*: position 0 of the first segment, which becomes allocated to train t
+abbrev pub firstSegment : Tables → ℕ → ℕ
+firstSegment T r = segmentAt (T .ways) r 1
+
+abbrev pub takenBy : ℕ → ℕ → ℕ → ℕ → ℕ
+takenBy first t s h = if eqb s first then t else h
+
+-- *Leave*: all allocated to train t is freed
+abbrev pub freedBy : ℕ → ℕ → ℕ → ℕ
+freedBy t s h = if eqb h t then 0 else h
+
+-- the train of number t becomes x
+abbrev pub becomes : ℕ → Train → ℕ → Train → Train
+becomes t x n old = if eqb n t then x else old
+
+-- flags: 1 entry, 2 exit, sum of both
+abbrev pub isEntry : Tables → ℕ → Bool
+isEntry T s = eqb (at (T .flags) s % 2) 1
+
+abbrev pub isExit : Tables → ℕ → Bool
+isExit T s = eqb (at (T .flags) s / 2) 1
+
+-- its segment is the route's last
+abbrev pub isLast : Tables → Train → Bool
+isLast T x = eqb (x .place) (countOf (T .ways) (x .route))

@@ -1,0 +1,90 @@
+-- A train of an area: the five ways in which one is written, and what is said of one (document 01, "The calls").
+-- T are the tables of the area, A its allocations, t the number of the train, x the train.
+use Prim.Native.Nat.{ℕ, _+_, _-_}
+use mathlib.Core.Bool.{Bool, true, false, _&&_}
+use mathlib.Core.List.{List}
+use lib.Dec.{leb, ltb, eqb}
+use Rattle.lists.specs.Words.{if_then_else_, nth, at}
+use Rattle.tables.specs.declared.Tables.{Tables}
+use Rattle.tables.specs.Tables.{countOf, segmentAt}
+use Rattle.trains.specs.declared.Train.{Train}
+
+-- trains of an area
+abbrev pub mostTrains : ℕ
+mostTrains = 24
+
+-- a train off: all zero
+abbrev pub off : Train
+off = record { route = 0; place = 0; position = 0; speed = 0; asks = false }
+
+-- a train that enters: position 0 of the route's first segment
+abbrev pub entered : ℕ → ℕ → Train
+entered r v = record { route = r; place = 1; position = 0; speed = v; asks = false }
+
+-- a train with another speed, with another asking, and further on: at place p of its route, position i there
+abbrev pub withSpeed : Train → ℕ → Train
+withSpeed x v = record { route = x .route; place = x .place; position = x .position; speed = v; asks = x .asks }
+
+abbrev pub withAsking : Train → Bool → Train
+withAsking x q = record { route = x .route; place = x .place; position = x .position; speed = x .speed; asks = q }
+
+abbrev pub movedTo : Train → ℕ → ℕ → Train
+movedTo x p i = record { route = x .route; place = p; position = i; speed = x .speed; asks = x .asks }
+
+-- the train of a number; a train off where there is none
+abbrev pub trainAt : List Train → ℕ → Train
+trainAt = nth off
+
+-- it is on the area
+abbrev pub isOn : Train → Bool
+isOn x = ltb 0 (x .route)
+
+-- its own segment: the one at its place of its route
+unfoldable pub ownIn : (ways : List ℕ) → Train → ℕ
+ownIn ways x = segmentAt ways (x .route) (x .place)
+
+abbrev pub ownOf : Tables → Train → ℕ
+ownOf T x = ownIn (T .ways) x
+
+-- its **next**: the route's next segment, 0 if there is none
+unfoldable pub nextIn : (ways : List ℕ) → Train → ℕ
+nextIn ways x = if ltb (x .place) (countOf ways (x .route)) then segmentAt ways (x .route) (x .place + 1) else 0
+
+abbrev pub nextOf : Tables → Train → ℕ
+nextOf T x = nextIn (T .ways) x
+
+-- the length and the limit of its own segment, and the limit of its next
+abbrev pub ownLength : Tables → Train → ℕ
+ownLength T x = at (T .lengths) (ownOf T x)
+
+abbrev pub ownLimit : Tables → Train → ℕ
+ownLimit T x = at (T .limits) (ownOf T x)
+
+abbrev pub nextLimit : Tables → Train → ℕ
+nextLimit T x = at (T .limits) (nextOf T x)
+
+-- **near**: position ≥ length - `d`
+unfoldable pub nearIn : (length d position : ℕ) → Bool
+nearIn length d position = leb (length - d) position
+
+abbrev pub near : Tables → Train → Bool
+near T x = nearIn (ownLength T x) (T .margin) (x .position)
+
+-- next exists and is allocated to it
+unfoldable pub holdsIn : (A : List ℕ) (t next : ℕ) → Bool
+holdsIn A t next = ltb 0 next && eqb (at A next) t
+
+abbrev pub holdsNext : Tables → List ℕ → ℕ → Train → Bool
+holdsNext T A t x = holdsIn A t (nextOf T x)
+
+-- the segments under the train: its own
+abbrev pub occupied : Tables → Train → ℕ → Bool
+occupied T x s = eqb (ownOf T x) s
+
+-- the segments that may be allocated to it ahead of its front: its next
+abbrev pub ahead : Tables → Train → ℕ → Bool
+ahead T x s = eqb (nextOf T x) s
+
+-- what it asks for: its next
+abbrev pub wanted : Tables → Train → ℕ
+wanted T x = nextOf T x

@@ -1,0 +1,231 @@
+//! Makes area files.
+//!
+//!     areas NAME          writes one file to standard output; `areas list` names them
+//!     areas verdicts      writes, for each file, its name and the line that `verdict` must print for it
+//!
+//! Each file is Area A of document 01 with one thing changed, but for `full`, which has every segment and every route.
+use std::io::Write;
+
+#[derive(Clone)]
+struct Segment {
+    length: u32,
+    limit: u16,
+    next: [u8; 2],
+    previous: [u8; 2],
+    flags: u8,
+}
+
+#[derive(Clone)]
+struct Plan {
+    segments: u8,
+    routes: u8,
+    gmax: u16,
+    braking: u16,
+    margin: u32,
+    rows: Vec<Segment>,
+    ways: Vec<Vec<u8>>,
+}
+
+fn segment(length: u32, limit: u16, next: [u8; 2], previous: [u8; 2], flags: u8) -> Segment {
+    Segment { length, limit, next, previous, flags }
+}
+
+fn area_a() -> Plan {
+    Plan {
+        segments: 3,
+        routes: 2,
+        gmax: 300,
+        braking: 10,
+        margin: 4650,
+        rows: vec![
+            segment(6000, 300, [3, 0], [0, 0], 1),
+            segment(5500, 290, [3, 0], [0, 0], 1),
+            segment(8000, 290, [0, 0], [1, 2], 2),
+        ],
+        ways: vec![vec![1, 3], vec![2, 3]],
+    }
+}
+
+/// A chain of all 62 segments and 30 routes of 31 segments, one after the other along it.
+fn full() -> Plan {
+    let chain = |s: u8| {
+        let next = if s < 62 { s + 1 } else { 0 };
+        segment(6000 + s as u32, 300, [next, 0], [s - 1, 0], 3)
+    };
+    Plan {
+        segments: 62,
+        routes: 30,
+        gmax: 300,
+        braking: 10,
+        margin: 4650,
+        rows: (1..=62).map(chain).collect(),
+        ways: (1..=30).map(|r| (r..r + 31).collect()).collect(),
+    }
+}
+
+/// The file of a plan, without its checks.
+fn unsealed(plan: &Plan) -> Vec<u8> {
+    let mut file = vec![0u8; 2560];
+    file[0] = 1;
+    file[1] = plan.segments;
+    file[2] = plan.routes;
+    file[4..6].copy_from_slice(&plan.gmax.to_le_bytes());
+    file[6..8].copy_from_slice(&plan.braking.to_le_bytes());
+    file[8..12].copy_from_slice(&plan.margin.to_le_bytes());
+    for (i, row) in plan.rows.iter().enumerate() {
+        let at = 512 * (1 + i / 31) + 16 * (i % 31);
+        file[at..at + 4].copy_from_slice(&row.length.to_le_bytes());
+        file[at + 4..at + 6].copy_from_slice(&row.limit.to_le_bytes());
+        file[at + 6..at + 8].copy_from_slice(&row.next);
+        file[at + 8..at + 10].copy_from_slice(&row.previous);
+        file[at + 10] = row.flags;
+    }
+    for (i, way) in plan.ways.iter().enumerate() {
+        let at = 512 * (3 + i / 15) + 32 * (i % 15);
+        file[at] = way.len() as u8;
+        file[at + 1..at + 1 + way.len()].copy_from_slice(way);
+    }
+    for (k, kind) in [1, 2, 2, 3, 3].into_iter().enumerate() {
+        file[512 * k + 496] = kind;
+        file[512 * k + 497] = k as u8;
+    }
+    file
+}
+
+/// The file with the check of each block set right.
+fn sealed(mut file: Vec<u8>) -> Vec<u8> {
+    for block in file.chunks_mut(512) {
+        let (mut first, mut second) = (0u32, 0u32);
+        for byte in &block[..510] {
+            first = (first + *byte as u32) % 255;
+            second = (second + first) % 255;
+        }
+        block[510] = first as u8;
+        block[511] = second as u8;
+    }
+    file
+}
+
+fn planned(change: impl Fn(&mut Plan)) -> Vec<u8> {
+    let mut plan = area_a();
+    change(&mut plan);
+    sealed(unsealed(&plan))
+}
+
+/// Area A with one byte changed and the checks set right.
+fn patched(at: usize, byte: u8) -> Vec<u8> {
+    let mut file = unsealed(&area_a());
+    file[at] = byte;
+    sealed(file)
+}
+
+/// Area A with one byte changed after the checks were set.
+fn damaged(at: usize, byte: u8) -> Vec<u8> {
+    let mut file = sealed(unsealed(&area_a()));
+    file[at] = byte;
+    file
+}
+
+/// Every file, with what `verdict` must print for it.
+fn files() -> Vec<(&'static str, Vec<u8>, &'static str)> {
+    let a = sealed(unsealed(&area_a()));
+    let mut longer = a.clone();
+    longer.push(0);
+    let mut two_wrong = patched(496, 9);
+    two_wrong[2048 + 510] ^= 1;
+    let mut zero_then_length = unsealed(&area_a());
+    zero_then_length[512 + 11] = 1;
+    zero_then_length[512 + 16..512 + 20].copy_from_slice(&4950u32.to_le_bytes());
+    let mut length_then_zero = unsealed(&area_a());
+    length_then_zero[512..516].copy_from_slice(&4950u32.to_le_bytes());
+    length_then_zero[512 + 16 + 11] = 1;
+    // the second sum of a block of zeros but for its tail is 0 or 255 away from what is stored
+    let mut stored_255 = a.clone();
+    for block in stored_255.chunks_mut(512) {
+        if block[510] == 0 {
+            block[510] = 255;
+        }
+    }
+    vec![
+        ("area_a", a.clone(), "0 0 done/segments 3 routes 2"),
+        ("full", sealed(unsealed(&full())), "0 0 done/segments 62 routes 30"),
+        ("empty", vec![], "1 0 size"),
+        ("shorter", a[..2559].to_vec(), "1 0 size"),
+        ("longer", longer, "1 0 size"),
+        ("byte_600", damaged(600, 1), "2 1 damaged"),
+        ("second_sum", damaged(511, a[511] ^ 1), "2 0 damaged"),
+        ("kind_and_check", two_wrong, "2 4 damaged"),
+        ("kind", patched(496, 9), "3 0 misfiled"),
+        ("block_number", patched(2048 + 497, 3), "3 4 misfiled"),
+        ("tail_zero", patched(512 + 509, 1), "3 1 misfiled"),
+        ("route_block_zero", patched(1536 + 480, 1), "3 3 misfiled"),
+        ("version", patched(0, 2), "4 0 header"),
+        ("header_byte_3", patched(3, 1), "4 0 header"),
+        ("header_zero", patched(495, 1), "4 0 header"),
+        ("no_segments", planned(|p| p.segments = 0), "4 0 header"),
+        ("segments_63", planned(|p| p.segments = 63), "4 0 header"),
+        ("no_routes", planned(|p| p.routes = 0), "4 0 header"),
+        ("routes_31", planned(|p| p.routes = 31), "4 0 header"),
+        ("gmax_1001", planned(|p| p.gmax = 1001), "4 0 header"),
+        ("no_braking", planned(|p| p.braking = 0), "4 0 header"),
+        ("braking_301", planned(|p| p.braking = 301), "4 0 header"),
+        ("margin_1000001", planned(|p| p.margin = 1_000_001), "4 0 header"),
+        ("margin_4649", planned(|p| p.margin = 4649), "5 0 margin"),
+        ("two_segments", planned(|p| p.segments = 2), "6 1 segment"),
+        ("length_4950", planned(|p| p.rows[1].length = 4950), "6 2 segment"),
+        ("length_4951", planned(|p| p.rows[1].length = 4951), "0 0 done/segments 3 routes 2"),
+        ("length_1000000", planned(|p| p.rows[2].length = 1_000_000), "0 0 done/segments 3 routes 2"),
+        ("length_1000001", planned(|p| p.rows[2].length = 1_000_001), "6 3 segment"),
+        ("limit_0", planned(|p| p.rows[0].limit = 0), "6 1 segment"),
+        ("limit_301", planned(|p| p.rows[0].limit = 301), "6 1 segment"),
+        ("link_4", planned(|p| p.rows[2].next = [4, 0]), "6 3 segment"),
+        ("same_links", planned(|p| p.rows[2].previous = [1, 1]), "6 3 segment"),
+        ("second_link_alone", planned(|p| p.rows[2].previous = [0, 2]), "6 3 segment"),
+        ("flags_4", planned(|p| p.rows[2].flags = 4), "6 3 segment"),
+        ("record_62", patched(1024 + 16 * 30 + 10, 1), "6 62 segment"),
+        ("zero_then_length", sealed(zero_then_length), "6 1 segment"),
+        ("length_then_zero", sealed(length_then_zero), "6 1 segment"),
+        ("previous_missing", planned(|p| p.rows[2].previous = [2, 0]), "7 1 joint"),
+        ("next_missing", planned(|p| p.rows[1].next = [0, 0]), "7 3 joint"),
+        (
+            "back_link",
+            planned(|p| {
+                p.rows[2].next = [1, 0];
+                p.rows[0].previous = [3, 0];
+            }),
+            "8 3 order",
+        ),
+        (
+            "own_link",
+            planned(|p| {
+                p.rows[0].next = [3, 1];
+                p.rows[0].previous = [1, 0];
+            }),
+            "8 1 order",
+        ),
+        ("limit_289", planned(|p| p.rows[2].limit = 289), "9 1 drop"),
+        ("one_route", planned(|p| p.routes = 1), "10 2 route"),
+        ("route_backwards", planned(|p| p.ways[1] = vec![3, 2]), "10 2 route"),
+        ("route_number_4", planned(|p| p.ways[1] = vec![2, 4]), "10 2 route"),
+        ("route_number_0", planned(|p| p.ways[0] = vec![0, 3]), "10 1 route"),
+        ("route_count_0", planned(|p| p.ways[1] = vec![]), "10 2 route"),
+        ("route_count_32", patched(1536, 32), "10 1 route"),
+        ("route_30_last_byte", patched(2048 + 32 * 14 + 31, 1), "10 30 route"),
+    ]
+}
+
+fn main() {
+    let wanted = std::env::args().nth(1).unwrap_or_else(|| "list".into());
+    let mut out = std::io::stdout().lock();
+    match wanted.as_str() {
+        "list" => files().iter().for_each(|(name, _, _)| writeln!(out, "{name}").unwrap()),
+        "verdicts" => files().iter().for_each(|(name, _, says)| writeln!(out, "{name} {says}").unwrap()),
+        _ => match files().into_iter().find(|(name, _, _)| *name == wanted) {
+            Some((_, file, _)) => out.write_all(&file).unwrap(),
+            None => {
+                eprintln!("areas: there is no file named {wanted}; 'areas list' names them");
+                std::process::exit(1);
+            }
+        },
+    }
+}
