@@ -17,8 +17,8 @@ use lib.ListN.{length, getD, set, take}
 use lib.Seq.{take-suc}
 use Rattle.lists.specs.Words.{if_then_else_, each, tabulate, every, _orElse_, least, firstFailing}
 use Rattle.lists.proofs.Numbered.{each-tabulate}
-use borrow.Author.Tests.{not-true}
-use Rattle.lists.proofs.Cases.{by-test, not-both, cases, lt-or-le, test-fails, test-holds}
+use borrow.Author.Tests.{eq-eqb, ne-eqb, not-true}
+use Rattle.lists.proofs.Cases.{by-test, not-both, cases, lt-or-le, eq-or-ne, test-fails, test-holds}
 
 module _ (p : ℕ → Bool) where
   pub every-none : every 0 p ≡ true
@@ -140,6 +140,15 @@ module _ (ok : ℕ → Bool) where
       (λ h. not-both (ok (firstFailing n ok)) (f (firstFailing n ok) h (failing-le n)) (failing-fails n h))
       (λ h. omega arith)
 
+-- a test of every number by the first that fails
+pub every-scan : (n : ℕ) (ok : ℕ → Bool) → eqb (firstFailing n ok) 0 ≡ every n ok
+every-scan n ok =
+    cases (eq-or-ne (firstFailing n ok) 0)
+    (λ e. eq-eqb (firstFailing n ok) 0 e ∙ sym (every-all ok n (failing-none ok n e)))
+    (λ e.
+    ne-eqb (firstFailing n ok) 0 e
+    ∙ sym (every-fails ok n (firstFailing n ok) (omega arith) (failing-le ok n) (failing-fails ok n (omega arith))))
+
 -- a scan of the numbers 1 to n by index, from 0: those up to i pass the test
 pub record Scanned (n : ℕ) (ok : ℕ → Bool) (i : ℕ) : Type 0 where
   pub most : i ≤ n
@@ -213,3 +222,9 @@ module _ {A : Type 0} where
 -- a fold over one entry more
 pub fold-more : {A B : Type 0} (f : B → A → B) (b : B) (l : List A) (i : ℕ) (d : A) → i < length l → foldl f b (take (i + 1) l) ≡ f (foldl f b (take i l)) (getD l i d)
 fold-more f b l i d h = rw (add-one i, take-suc l i d, foldl-append)
+
+-- tests that agree have the same least number, and functions that agree the same list
+pub least-same : (n : ℕ) (p q : ℕ → Bool) → ((k : ℕ) → 1 ≤ k → k ≤ n → p k ≡ q k) → least n p ≡ least n q
+unfolding least
+least-same zero p q f = refl
+least-same (suc n) p q f = rw (least-same n p q (λ k low high. f k low (omega arith)), f (suc n) (omega arith) (omega arith))

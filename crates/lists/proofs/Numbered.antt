@@ -5,8 +5,11 @@ use Prim.Native.Nat.{ℕ, zero, suc, _+_, _-_, _≤_, _<_}
 use native.Mathlib.Nat.{le-of-suc-le-suc, not-suc-le-zero}
 use native.Mathlib.Numerals.{add-one}
 use native.Mathlib.Omega.{arith}
-use lib.ListN.{length, getD, replicate, length-map, List·getD-eq-default}
-use Rattle.lists.specs.Words.{nth, each, tabulate}
+use lib.ListN.{length, getD, set, replicate, length-map, List·getD-eq-default}
+use lib.Dec.{eqb, eqb·suc-suc}
+use borrow.Author.Tests.{ne-eqb}
+use mathlib.Core.Logic.{_⊎_, ⊎-elim}
+use Rattle.lists.specs.Words.{if_then_else_, nth, each, tabulate}
 
 module _ {A : Type 0} (none : A) where
   pub nth-zero : (l : List A) (n : ℕ) → n ≡ 0 → nth none l n ≡ none
@@ -71,3 +74,40 @@ unfolding nth
 nth-replicate none n zero = refl
 nth-replicate none zero (suc k) = refl
 nth-replicate none (suc n) (suc k) = nth-replicate none n k
+
+-- functions that agree at every entry make the same list
+pub each-same : {A B : Type 0} (f g : ℕ → A → B) (l : List A) → ((n : ℕ) (x : A) → 1 ≤ n → n ≤ length l → f n x ≡ g n x) → each f l ≡ each g l
+unfolding each
+each-same f g [] h = refl
+each-same f g (x ∷ l) h =
+    rw (h 1 x (omega arith) (omega arith), each-same (λ (n : ℕ). f (suc n)) (λ (n : ℕ). g (suc n)) l (λ n y low high. h (suc n) y (omega arith) (omega arith)))
+
+-- a function that keeps every entry keeps the list
+pub each-keeps : {A : Type 0} (f : ℕ → A → A) (l : List A) → ((n : ℕ) (x : A) → 1 ≤ n → n ≤ length l → f n x ≡ x) → each f l ≡ l
+unfolding each
+each-keeps f [] h = refl
+each-keeps f (x ∷ l) h =
+    rw (h 1 x (omega arith) (omega arith), each-keeps (λ (n : ℕ). f (suc n)) l (λ n y low high. h (suc n) y (omega arith) (omega arith)))
+
+-- a store at one number
+abbrev pub stored : {A : Type 0} → ℕ → A → ℕ → A → A
+stored n x k old = if eqb k n then x else old
+
+set-each : {A : Type 0} (l : List A) (i : ℕ) (x : A) → i < length l → set l i x ≡ each (stored (suc i) x) l
+unfolding each
+set-each [] i x h = absurd (not-suc-le-zero h)
+set-each (y ∷ l) zero x h = ap (λ (r : List _). x ∷ r) (sym (each-keeps (λ (k : ℕ). stored 1 x (suc k)) l (λ n z low high. rw (ne-eqb (suc n) 1 (λ e. omega arith)))))
+set-each (y ∷ l) (suc i) x h =
+    rw (ne-eqb 1 (suc (suc i)) (λ e. omega arith))
+    (ap (λ (r : List _). y ∷ r)
+    (set-each l i x (le-of-suc-le-suc h) ∙ each-same (stored (suc i) x) (λ (k : ℕ). stored (suc (suc i)) x (suc k)) l (λ n z low high. rw (eqb·suc-suc n (suc i)))))
+
+pub store-each : {A : Type 0} (l : List A) (n : ℕ) (x : A) → 1 ≤ n → n ≤ length l → set l (n - 1) x ≡ each (stored n x) l
+store-each l zero x low high = absurd (not-suc-le-zero low)
+store-each l (suc i) x low high = let e : suc i - 1 ≡ i = omega arith in rw e (set-each l i x high)
+
+-- a number that the list does not have stores nothing
+pub store-none : {A : Type 0} (l : List A) (n : ℕ) (x : A) → (n < 1) ⊎ (length l < n) → each (stored n x) l ≡ l
+store-none l n x out =
+    each-keeps (stored n x) l
+    (λ k y low high. rw (ne-eqb k n (λ e. ⊎-elim (λ o. omega arith) (λ o. omega arith) out)))

@@ -2,18 +2,18 @@
 use Prim.Native.Nat.{ℕ, zero, suc, _+_, _-_, _≤_, _<_}
 use mathlib.Core.Path.{_≡_, refl, sym, ap, _∙_}
 use mathlib.Core.Bool.{Bool, true, false, not, _&&_, _||_, and-eq-true-iff}
-use mathlib.Core.Logic.{_⊎_, inl, inr}
+use mathlib.Core.Logic.{_⊎_, inl, inr, _↔_}
 use mathlib.Core.List.{List}
 use native.Mathlib.Omega.{arith}
 use lib.Dec.{leb, ltb, eqb}
 use borrow.Author.Tests.{leb-true, ltb-true, eqb-true, le-leb}
 use Rattle.lists.specs.Words.{if_then_else_, at, every}
 use Rattle.lists.proofs.Cases.{cases, and-iff, facts}
-use Rattle.lists.proofs.Loops.{every-at}
+use Rattle.lists.proofs.Loops.{every-at, every-all}
 use Rattle.tables.specs.declared.Tables.{Tables}
 use Rattle.tables.specs.Bounds.{mostSegments, mostRoutes, longestRoute, fastest, longest}
 use Rattle.tables.specs.Tables.{firstLink, secondLink, linksTo, segmentOf, countOf, segmentAt, brakingDistance}
-use Rattle.tables.specs.Rules.{headerIn, linksOk, usedOk, unusedOk, rowOk, segmentOk, matched, jointIn, greater, orderIn, gentle, dropIn, stepIn, countIn, routeIn}
+use Rattle.tables.specs.Rules.{headerIn, linksOk, usedOk, unusedOk, rowOk, segmentOk, matched, jointIn, greater, orderIn, gentle, dropIn, stepIn, countIn, routeIn, jointOk, orderOk, dropOk, routeOk, meets}
 use Rattle.tables.specs.Facts.{Meets, IsSegment, Follows, Consistent}
 
 -- one of two tests holds
@@ -133,3 +133,30 @@ module _ (T : Tables) (m : Meets T) where
             let e : p + 1 - 1 ≡ p = omega arith in
             record { link = rw e at (s .1 (omega arith)); some = s .0 .from };
       }
+
+-- the test of tables decides whether they meet the rules
+pub meets-iff : (T : Tables) → (meets T ≡ true) ↔ Meets T
+unfolding meets
+meets-iff T = (
+  λ h.
+      let f = simp and-iff at h in
+      record {
+        header = f .0 .0 .0 .0 .0 .0;
+        margin = f .0 .0 .0 .0 .0 .1;
+        segment = every-at (segmentOk T) mostSegments (f .0 .0 .0 .0 .1);
+        joint = every-at (jointOk T) (T .segments) (f .0 .0 .0 .1);
+        order = every-at (orderOk T) (T .segments) (f .0 .0 .1);
+        drop = every-at (dropOk T) (T .segments) (f .0 .1);
+        route = every-at (routeOk T) mostRoutes (f .1);
+      },
+  λ m.
+      rw (
+        m .header,
+        m .margin,
+        every-all (segmentOk T) mostSegments (m .segment),
+        every-all (jointOk T) (T .segments) (m .joint),
+        every-all (orderOk T) (T .segments) (m .order),
+        every-all (dropOk T) (T .segments) (m .drop),
+        every-all (routeOk T) mostRoutes (m .route),
+      ),
+)

@@ -95,3 +95,13 @@ routeIn next ways n R r = countIn ways R r && every longestRoute (stepIn next wa
 
 abbrev pub routeOk : Tables → ℕ → Bool
 routeOk T = routeIn (T .next) (T .ways) (T .segments) (T .routes)
+
+-- "Tables meet 4 to 10": rules 6 and 10 of all records, rules 7 to 9 of the segments 1 to N
+unfoldable pub meets : Tables → Bool
+meets T =
+    headerOk T && marginOk T
+    && every mostSegments (segmentOk T)
+    && every (T .segments) (jointOk T)
+    && every (T .segments) (orderOk T)
+    && every (T .segments) (dropOk T)
+    && every mostRoutes (routeOk T)

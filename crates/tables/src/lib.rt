@@ -4,9 +4,9 @@ ghost use Prim.Native.Nat.{_≤_, _+_, _-_};
 ghost use lib.Dec.{leb};
 ghost use Rattle.lists.specs.Words.{firstFailing};
 ghost use Rattle.braking.specs.Braking.{S};
-ghost use Rattle.tables.specs.Bounds.{mostRoutes};
+ghost use Rattle.tables.specs.Bounds.{mostSegments, mostRoutes};
 ghost use Rattle.tables.specs.Tables.{firstLink, secondLink, linksTo, rowOf, countOf, segmentAt, blankTables};
-ghost use Rattle.tables.specs.Rules.{headerIn, linksOk, usedOk, unusedOk, rowOk, matched, jointIn, greater, orderIn, gentle, dropIn, stepIn, countIn, routeIn};
+ghost use Rattle.tables.specs.Rules.{headerIn, linksOk, usedOk, unusedOk, rowOk, matched, jointIn, greater, orderIn, gentle, dropIn, stepIn, countIn, routeIn, meets};
 use lists::entry_u8;
 use lists::entry_u16;
 use lists::entry_u32;
@@ -195,6 +195,30 @@ pub fn row_ok(n: u8, gmax: u16, margin: u32, k: u8, s: Segment) -> bool
     unused_ok(s)
 }
 
+// The least of all segment records that breaks rule 6 in what is kept of it, 0 where none does.
+fn first_bad_segment<'a>(
+    lengths: &'a [u32; 62],
+    limits: &'a [u16; 62],
+    next: &'a [u8; 124],
+    previous: &'a [u8; 124],
+    flags: &'a [u8; 62],
+    n: u8,
+    gmax: u16,
+    margin: u32,
+) -> u8
+    ensures { λ r. ⌜ r ≡ firstFailing mostSegments (λ k. rowOk n gmax margin k (rowOf (now (lengths .entry)) (now (limits .entry)) (now (next .entry)) (now (previous .entry)) (now (flags .entry)) k)) ⌝ }
+{
+    let mut i: u8 = 0;
+    while i < MOST_SEGMENTS {
+        let row = row_of(lengths, limits, next, previous, flags, i + 1);
+        if !row_ok(n, gmax, margin, i + 1, row) {
+            return i + 1;
+        }
+        i += 1;
+    }
+    0
+}
+
 // ---- rules 7 to 9: the least segment of 1 to n that breaks the rule, 0 where none does
 fn is_matched(back: &[u8; 124], link: u8, s: u8) -> bool
     ensures { λ r. ⌜ r ≡ matched (now (back .entry)) link s ⌝ }
@@ -341,4 +365,29 @@ pub fn first_bad_route<'a>(next: &'a [u8; 124], ways: &'a [u8; 960], n: u8, rout
         i += 1;
     }
     0
+}
+
+// ---- rules 4 to 10 together
+pub fn tables_meet(t: Tables) -> bool
+    ensures { λ r. ⌜ r ≡ meets t ⌝ }
+{
+    if !header_ok(t.segments, t.routes, t.gmax, t.braking, t.margin) {
+        return false;
+    }
+    let margin = margin_ok(t.gmax, t.braking, t.margin);
+    let segment = first_bad_segment(
+        &t.lengths,
+        &t.limits,
+        &t.next,
+        &t.previous,
+        &t.flags,
+        t.segments,
+        t.gmax,
+        t.margin,
+    );
+    let unjoined = first_unjoined(&t.next, &t.previous, t.segments);
+    let unordered = first_unordered(&t.next, t.segments);
+    let dropping = first_dropping(&t.limits, &t.next, t.braking, t.segments);
+    let route = first_bad_route(&t.next, &t.ways, t.segments, t.routes);
+    margin & (segment == 0) & (unjoined == 0) & (unordered == 0) & (dropping == 0) & (route == 0)
 }

@@ -1,3 +1,4 @@
 pub mod Train
 pub mod Steps
 pub mod Sound
+pub mod Spot

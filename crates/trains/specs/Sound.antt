@@ -5,8 +5,9 @@ use mathlib.Core.Bool.{Bool, not, _&&_, _||_}
 use mathlib.Core.List.{List}
 use lib.Dec.{leb, ltb, eqb}
 use Rattle.lists.specs.Words.{if_then_else_, at}
+use Rattle.braking.specs.Braking.{S, B}
 use Rattle.tables.specs.declared.Tables.{Tables}
-use Rattle.tables.specs.Tables.{countOf, brakingDistance}
+use Rattle.tables.specs.Tables.{countOf}
 use Rattle.trains.specs.declared.Train.{Train}
 use Rattle.trains.specs.Train.{trainAt, isOn, ownOf, ownLength, ownLimit, nextLimit, holdsNext, occupied, ahead}
 use Rattle.trains.specs.Steps.{wants}
@@ -15,33 +16,43 @@ use Rattle.trains.specs.Steps.{wants}
 abbrev pub offSound : Train → Bool
 offSound x = eqb (x .place) 0 && eqb (x .position) 0 && eqb (x .speed) 0 && not (x .asks)
 
--- route 1 to R, place 1 to the route's count, position < length, speed ≤ limit; its own segment is allocated to it
-unfoldable pub placeSound : Tables → List ℕ → ℕ → Train → Bool
-placeSound T A t x =
-    leb (x .route) (T .routes) && leb 1 (x .place) && leb (x .place) (countOf (T .ways) (x .route))
-    && ltb (x .position) (ownLength T x) && leb (x .speed) (ownLimit T x)
-    && eqb (at A (ownOf T x)) t
+-- a train on: route 1 to R, place 1 to the route's count, position < length, speed ≤ limit; its own segment is allocated to it
+unfoldable pub placeIn : (R count length limit holder t : ℕ) → Train → Bool
+placeIn R count length limit holder t x =
+    leb (x .route) R && leb 1 (x .place) && leb (x .place) count && ltb (x .position) length && leb (x .speed) limit && eqb holder t
+
+abbrev pub placeSound : Tables → List ℕ → ℕ → Train → Bool
+placeSound T A t x = placeIn (T .routes) (countOf (T .ways) (x .route)) (ownLength T x) (ownLimit T x) (at A (ownOf T x)) t x
 
 -- the way still to run under full braking: B(speed) with speed due, S(speed) with another step due
-unfoldable pub toRun : Tables → ℕ → ℕ → ℕ
-toRun T due v = if eqb due 0 then brakingDistance T v - v else brakingDistance T v
+unfoldable pub runIn : (b due speed : ℕ) → ℕ
+runIn b due v = if eqb due 0 then B b v else S b v
+
+abbrev pub toRun : Tables → ℕ → ℕ → ℕ
+toRun T due v = runIn (T .braking) due v
 
 -- while next is not allocated to it, or there is none: position + the way still to run < length;
 -- while it is, another step is due and position + speed ≥ length: speed ≤ next's limit
-unfoldable pub brakingSound : Tables → List ℕ → ℕ → ℕ → Train → Bool
-brakingSound T A due t x =
-    if holdsNext T A t x
-    then eqb due 0 || ltb (x .position + x .speed) (ownLength T x) || leb (x .speed) (nextLimit T x)
-    else ltb (x .position + toRun T due (x .speed)) (ownLength T x)
+unfoldable pub brakingIn : (b due length nextLimit : ℕ) (holds : Bool) → Train → Bool
+brakingIn b due length nextLimit holds x =
+    if holds
+    then eqb due 0 || ltb (x .position + x .speed) length || leb (x .speed) nextLimit
+    else ltb (x .position + runIn b due (x .speed)) length
+
+abbrev pub brakingSound : Tables → List ℕ → ℕ → ℕ → Train → Bool
+brakingSound T A due t x = brakingIn (T .braking) due (ownLength T x) (nextLimit T x) (holdsNext T A t x) x
 
 -- it asks exactly when grant is due, it is near and next exists and isn't its own
-unfoldable pub askingSound : Tables → List ℕ → ℕ → ℕ → Train → Bool
-askingSound T A due t x = if x .asks then eqb due 2 && wants T A t x else not (eqb due 2 && wants T A t x)
+unfoldable pub askingIn : (due : ℕ) (wanting asks : Bool) → Bool
+askingIn due wanting asks = if asks then eqb due 2 && wanting else not (eqb due 2 && wanting)
+
+abbrev pub askingSound : Tables → List ℕ → ℕ → ℕ → Train → Bool
+askingSound T A due t x = askingIn due (wants T A t x) (x .asks)
 
 unfoldable pub trainSound : Tables → List ℕ → ℕ → ℕ → Train → Bool
 trainSound T A due t x = if isOn x then placeSound T A t x && brakingSound T A due t x && askingSound T A due t x else offSound x
 
--- an allocation is 0 or the number of a train on, of which the segment is its own or its next, no other; above N it is 0
+-- an allocation is 0 or the number of a train on, whose own segment or next it is, no other; above N it is 0
 unfoldable pub allocationSound : Tables → List Train → ℕ → ℕ → Bool
 allocationSound T trains s h =
     eqb h 0 || (leb s (T .segments) && isOn (trainAt trains h) && (occupied T (trainAt trains h) s || ahead T (trainAt trains h) s))

@@ -1,6 +1,11 @@
-// A train of an area by value.
+// A train of an area by value, and where one stands. The tables' arrays are lent.
 ghost use mathlib.Core.Path.{_≡_};
-ghost use Rattle.trains.specs.Train.{off};
+ghost use Rattle.trains.specs.Train.{off, entered, withSpeed, withAsking, trainAt, ownIn, nextIn, nearIn, holdsIn};
+ghost use Rattle.trains.specs.Spot.{spotIn};
+ghost use Rattle.trains.specs.Steps.{wantsIn};
+use lists::entry_u8;
+use lists::entry_u16;
+use lists::entry_u32;
 
 // Route and place are counted from 1; route 0 is a train off, which is all zero. Position in decimetres, speed in decimetres
 // per cycle.
@@ -12,7 +17,20 @@ pub struct Train {
     pub asks: bool,
 }
 
-// A train off.
+// What the tables and the allocations say of a train where it stands: its route's count, its own segment, who holds that, its
+// length and limit; its next, the limit there, and whether that is allocated to the train.
+pub struct Spot {
+    pub count: u8,
+    pub own: u8,
+    pub holder: u8,
+    pub length: u32,
+    pub limit: u16,
+    pub next: u8,
+    pub nextlimit: u16,
+    pub holds: bool,
+}
+
+// ---- the five ways in which a train is written
 pub fn train_off() -> Train
     ensures { λ r. ⌜ r ≡ off ⌝ }
 {
@@ -23,4 +41,115 @@ pub fn train_off() -> Train
         speed: 0,
         asks: false,
     }
+}
+
+pub fn entered_train(route: u8, speed: u16) -> Train
+    ensures { λ r. ⌜ r ≡ entered route speed ⌝ }
+{
+    Train {
+        route,
+        place: 1,
+        position: 0,
+        speed,
+        asks: false,
+    }
+}
+
+pub fn with_speed(x: Train, speed: u16) -> Train
+    ensures { λ r. ⌜ r ≡ withSpeed x speed ⌝ }
+{
+    Train {
+        route: x.route,
+        place: x.place,
+        position: x.position,
+        speed,
+        asks: x.asks,
+    }
+}
+
+pub fn with_asking(x: Train, asks: bool) -> Train
+    ensures { λ r. ⌜ r ≡ withAsking x asks ⌝ }
+{
+    Train {
+        route: x.route,
+        place: x.place,
+        position: x.position,
+        speed: x.speed,
+        asks,
+    }
+}
+
+// ---- where a train stands
+// The train of a number; a train off where there is none.
+pub fn train_at(trains: [Train; 24], n: u8) -> Train
+    ensures { λ r. ⌜ r ≡ trainAt trains n ⌝ }
+{
+    let k = n as usize;
+    if k == 0 {
+        return train_off();
+    }
+    let i = k - 1;
+    if i < 24 { trains[i] } else { train_off() }
+}
+
+pub fn own_of(ways: &[u8; 960], x: Train) -> u8
+    ensures { λ r. ⌜ r ≡ ownIn (now (ways .entry)) x ⌝ }
+{
+    tables::segment_at(ways, x.route, x.place)
+}
+
+pub fn next_of(ways: &[u8; 960], x: Train) -> u8
+    ensures { λ r. ⌜ r ≡ nextIn (now (ways .entry)) x ⌝ }
+{
+    let place = x.place;
+    if place < tables::count_of(ways, x.route) {
+        return tables::segment_at(ways, x.route, place + 1);
+    }
+    0
+}
+
+pub fn is_near(length: u32, margin: u32, position: u32) -> bool
+    ensures { λ r. ⌜ r ≡ nearIn length margin position ⌝ }
+{
+    if length <= margin {
+        return true;
+    }
+    length - margin <= position
+}
+
+fn holds_next(allocations: &[u8; 62], t: u8, next: u8) -> bool
+    ensures { λ r. ⌜ r ≡ holdsIn (now (allocations .entry)) t next ⌝ }
+{
+    (0 < next) & (entry_u8(allocations, next as usize) == t)
+}
+
+pub fn spot_of<'a>(
+    ways: &'a [u8; 960],
+    lengths: &'a [u32; 62],
+    limits: &'a [u16; 62],
+    allocations: &'a [u8; 62],
+    t: u8,
+    x: Train,
+) -> Spot
+    ensures { λ r. ⌜ r ≡ spotIn (now (ways .entry)) (now (lengths .entry)) (now (limits .entry)) (now (allocations .entry)) t x ⌝ }
+{
+    let own = own_of(ways, x);
+    let next = next_of(ways, x);
+    Spot {
+        count: tables::count_of(ways, x.route),
+        own,
+        holder: entry_u8(allocations, own as usize),
+        length: entry_u32(lengths, own as usize),
+        limit: entry_u16(limits, own as usize),
+        next,
+        nextlimit: entry_u16(limits, next as usize),
+        holds: holds_next(allocations, t, next),
+    }
+}
+
+// Near, with a next that is not allocated to it.
+pub fn wants_next(margin: u32, spot: Spot, x: Train) -> bool
+    ensures { λ r. ⌜ r ≡ wantsIn (nearIn (spot .length) margin (x .position)) (spot .holds) (spot .next) ⌝ }
+{
+    is_near(spot.length, margin, x.position) & (0 < spot.next) & !spot.holds
 }
