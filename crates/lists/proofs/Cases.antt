@@ -2,7 +2,7 @@
 use Prim.Native.Nat.{ℕ, _≤_, _<_}
 use mathlib.Core.Path.{_≡_, refl, sym, _∙_}
 use mathlib.Core.Logic.{_⊎_, inl, inr, _↔_}
-use mathlib.Core.Bool.{Bool, true, false, not, _&&_, and-eq-true-iff}
+use mathlib.Core.Bool.{Bool, true, false, not, _&&_, _||_, and-eq-true-iff}
 use mathlib.Core.List.{List, [], _∷_}
 use native.Mathlib.Omega.{arith}
 use lib.Dec.{leb, ltb, eqb}
@@ -133,3 +133,13 @@ first-number ts up =
     by-test (firstOf ts .holds)
     (λ h. let l = first-above 0 ts up h in rw h (ne-eqb (firstOf ts .number) 0 (λ z. omega arith)))
     (λ h. rw (first-none ts h))
+
+-- one of two tests holds
+pub either : (a b : Bool) → (a || b) ≡ true → (a ≡ true) ⊎ (b ≡ true)
+either true b e = inl refl
+either false b e = inr e
+
+pub either-yes : (a b : Bool) → (a ≡ true) ⊎ (b ≡ true) → (a || b) ≡ true
+either-yes true b w = refl
+either-yes false b (inl e) = not-both false e refl
+either-yes false b (inr e) = e

@@ -1,0 +1,11 @@
+use mathlib.Core.Path.{refl}
+use Rattle.trains.specs.Sound.{placeIn}
+use Rattle.soundness.proofs.place_sound.Statement.{statement}
+use Rattle.soundness.proofs.place_sound.Tie as tie
+
+returns : tie.Need-returns
+unfolding placeIn
+returns c = refl
+
+pub place-sound-spec : {M : Type 1} → statement M
+place-sound-spec = tie.close (tie.spec returns)

@@ -1,0 +1,27 @@
+use native.Mathlib.Omega.{arith}
+use borrow.Author.Needs.{needs}
+use borrow.Author.Tests.{eq-eqb, ne-eqb}
+use Rattle.braking.specs.Braking.{B}
+use Rattle.braking.proofs.Laws.{S-above}
+use Rattle.trains.specs.Sound.{runIn}
+use Rattle.soundness.proofs.to_run.Statement.{statement}
+use Rattle.soundness.proofs.to_run.Tie as tie
+
+braking-distance-requires : tie.Need-braking-distance-requires
+braking-distance-requires c κs = search needs
+
+sub-result : tie.Need-sub-result
+sub-result c =
+    let a = c .before .before .args in
+    omega (arith, c .before .braking-distance .ensures, S-above (a .braking) (c .before .before .pre) (a .speed))
+
+returns : tie.Need-returns
+unfolding runIn B
+returns c = simp (c .before .braking-distance .ensures, eq-eqb _ _ (c .if1 .taken))
+
+returns-2 : tie.Need-returns-2
+unfolding runIn
+returns-2 c = simp (c .before .braking-distance .ensures, ne-eqb _ _ (c .if1 .left))
+
+pub to-run-spec : {M : Type 1} → statement M
+to-run-spec = tie.close (tie.spec braking-distance-requires sub-result returns returns-2)

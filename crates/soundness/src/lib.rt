@@ -1,0 +1,142 @@
+// The conditions of a sound record on trains and allocations. Of a record handed in nothing is known but what is tested first.
+ghost use mathlib.Core.Path.{_≡_};
+ghost use mathlib.Core.Bool.{Bool, true, _&&_, _||_};
+ghost use Prim.Native.Nat.{_≤_};
+ghost use lib.Dec.{leb, eqb};
+ghost use Rattle.lists.specs.Words.{if_then_else_, at, every};
+ghost use Rattle.braking.specs.Braking.{S};
+ghost use Rattle.tables.specs.Bounds.{mostSegments};
+ghost use Rattle.tables.specs.Facts.{Consistent};
+ghost use Rattle.trains.specs.Train.{mostTrains, trainAt, isOn, ownIn, nextIn, nearIn};
+ghost use Rattle.trains.specs.Steps.{wantsIn};
+ghost use Rattle.trains.specs.Sound.{offSound, placeIn, runIn, brakingIn, askingIn, trainSound, allocationSound};
+use tables::Tables;
+use trains::Spot;
+use trains::Train;
+
+fn off_sound(x: Train) -> bool
+    ensures { λ r. ⌜ r ≡ offSound x ⌝ }
+{
+    (x.place == 0) & (x.position == 0) & (x.speed == 0) & !x.asks
+}
+
+fn place_sound(routes: u8, spot: Spot, t: u8, x: Train) -> bool
+    ensures { λ r. ⌜ r ≡ placeIn routes (spot .count) (spot .length) (spot .limit) (spot .holder) t x ⌝ }
+{
+    (x.route <= routes)
+        & (1 <= x.place)
+        & (x.place <= spot.count)
+        & (x.position < spot.length)
+        & (x.speed <= spot.limit)
+        & (spot.holder == t)
+}
+
+// The way still to run: B(speed) with speed due, S(speed) with another step due.
+fn to_run(braking: u16, due: u8, speed: u16) -> u32
+    requires { ⌜ 1 ≤ braking ⌝ }
+    ensures { λ r. ⌜ r ≡ runIn braking due speed ⌝ }
+{
+    let distance = braking::braking_distance(speed, braking);
+    if due == 0 {
+        return distance - (speed as u32);
+    }
+    distance
+}
+
+// The braking sum is worked out only of a train so far along that it matters: before that S(speed) ≤ `d` keeps it within.
+fn braking_sound(braking: u16, margin: u32, due: u8, spot: Spot, x: Train) -> bool
+    requires { ⌜ (1 ≤ braking) × (S braking (x .speed) ≤ margin) ⌝ }
+    ensures { λ r. ⌜ r ≡ brakingIn braking due (spot .length) (spot .nextlimit) (spot .holds) x ⌝ }
+{
+    let position = x.position as u64;
+    let length = spot.length as u64;
+    if spot.holds {
+        return (due == 0) | (position + (x.speed as u64) < length) | (x.speed <= spot.nextlimit);
+    }
+    if position + (margin as u64) < length {
+        return true;
+    }
+    position + (to_run(braking, due, x.speed) as u64) < length
+}
+
+fn asking_sound(margin: u32, due: u8, spot: Spot, x: Train) -> bool
+    ensures { λ r. ⌜ r ≡ askingIn due (wantsIn (nearIn (spot .length) margin (x .position)) (spot .holds) (spot .next)) (x .asks) ⌝ }
+{
+    let wants = (due == 2) & trains::wants_next(margin, spot, x);
+    if x.asks {
+        return wants;
+    }
+    !wants
+}
+
+fn train_sound(routes: u8, braking: u16, margin: u32, due: u8, spot: Spot, t: u8, x: Train) -> bool
+    requires { ⌜ (1 ≤ braking) × (1 ≤ x .route → placeIn routes (spot .count) (spot .length) (spot .limit) (spot .holder) t x ≡ true → S braking (spot .limit) ≤ margin) ⌝ }
+    ensures { λ r. ⌜ r ≡ (if isOn x then placeIn routes (spot .count) (spot .length) (spot .limit) (spot .holder) t x && brakingIn braking due (spot .length) (spot .nextlimit) (spot .holds) x && askingIn due (wantsIn (nearIn (spot .length) margin (x .position)) (spot .holds) (spot .next)) (x .asks) else offSound x) ⌝ }
+{
+    if x.route == 0 {
+        return off_sound(x);
+    }
+    if !place_sound(routes, spot, t, x) {
+        return false;
+    }
+    braking_sound(braking, margin, due, spot, x) & asking_sound(margin, due, spot, x)
+}
+
+// Tables are tested first: of consistent tables S(`gmax`) ≤ `d`.
+pub fn trains_sound(tables: Tables, allocations: [u8; 62], due: u8, trains: [Train; 24]) -> bool
+    requires { ⌜ Consistent tables ⌝ }
+    ensures { λ r. ⌜ r ≡ every mostTrains (λ t. trainSound tables allocations due t (trainAt trains t)) ⌝ }
+{
+    let mut i: usize = 0;
+    while i < 24 {
+        let x = trains[i];
+        let t = (i + 1) as u8;
+        let spot = trains::spot_of(
+            &tables.ways,
+            &tables.lengths,
+            &tables.limits,
+            &allocations,
+            t,
+            x,
+        );
+        if !train_sound(
+            tables.routes,
+            tables.braking,
+            tables.margin,
+            due,
+            spot,
+            t,
+            x,
+        ) {
+            return false;
+        }
+        i += 1;
+    }
+    true
+}
+
+fn allocation_sound(ways: &[u8; 960], segments: u8, s: u8, h: u8, x: Train) -> bool
+    ensures { λ r. ⌜ r ≡ (eqb h 0 || (leb s segments && isOn x && (eqb (ownIn (now (ways .entry)) x) s || eqb (nextIn (now (ways .entry)) x) s))) ⌝ }
+{
+    if h == 0 {
+        return true;
+    }
+    let own = trains::own_of(ways, x);
+    let next = trains::next_of(ways, x);
+    (s <= segments) & (0 < x.route) & ((own == s) | (next == s))
+}
+
+pub fn allocations_sound(tables: Tables, allocations: [u8; 62], trains: [Train; 24]) -> bool
+    ensures { λ r. ⌜ r ≡ every mostSegments (λ s. allocationSound tables trains s (at allocations s)) ⌝ }
+{
+    let mut i: usize = 0;
+    while i < 62 {
+        let h = allocations[i];
+        let x = trains::train_at(trains, h);
+        if !allocation_sound(&tables.ways, tables.segments, (i + 1) as u8, h, x) {
+            return false;
+        }
+        i += 1;
+    }
+    true
+}

@@ -1,0 +1,254 @@
+// What becomes of the trains and of the allocations in each step. Tables come by value once per step; their arrays are lent to the
+// leaves. Position's code is not here yet.
+ghost use mathlib.Core.Path.{_≡_};
+ghost use mathlib.Core.Bool.{Bool};
+ghost use Prim.Native.Nat.{_-_, min, max};
+ghost use lib.Dec.{eqb};
+ghost use Rattle.lists.specs.Words.{if_then_else_, at, each, least};
+ghost use Rattle.trains.specs.Train.{mostTrains, withSpeed, withAsking, isOn, nextIn, nearIn};
+ghost use Rattle.trains.specs.Steps.{speedIn, sped, wantsIn, requested, asked, granted, calmed, takenBy, freedBy, becomes};
+use lists::entry_u8;
+use lists::entry_u16;
+use tables::Tables;
+use trains::Spot;
+use trains::Train;
+
+// ---- speed
+fn lowered(speed: u16, braking: u16) -> u16
+    ensures { λ r. ⌜ r ≡ speed - braking ⌝ }
+{
+    if speed <= braking { 0 } else { speed - braking }
+}
+
+fn smaller(a: u16, b: u16) -> u16
+    ensures { λ r. ⌜ r ≡ min a b ⌝ }
+{
+    if a < b { a } else { b }
+}
+
+fn larger(a: u16, b: u16) -> u16
+    ensures { λ r. ⌜ r ≡ max a b ⌝ }
+{
+    if a < b { b } else { a }
+}
+
+// The highest speed where a train stands: its own limit, and next's too where it is near.
+fn highest(near: bool, limit: u16, next: u16) -> u16
+    ensures { λ r. ⌜ r ≡ (if near then min limit next else limit) ⌝ }
+{
+    if near {
+        return smaller(limit, next);
+    }
+    limit
+}
+
+fn new_speed(braking: u16, near: bool, spot: Spot, speed: u16, wish: u16) -> u16
+    ensures { λ r. ⌜ r ≡ speedIn braking (spot .limit) (spot .nextlimit) near (spot .holds) speed wish ⌝ }
+{
+    let low = lowered(speed, braking);
+    if near & !spot.holds {
+        return low;
+    }
+    let high = highest(near, spot.limit, spot.nextlimit);
+    larger(low, smaller(high, wish))
+}
+
+fn sped_train(braking: u16, margin: u32, spot: Spot, wish: u16, x: Train) -> Train
+    ensures { λ r. ⌜ r ≡ (if isOn x then withSpeed x (speedIn braking (spot .limit) (spot .nextlimit) (nearIn (spot .length) margin (x .position)) (spot .holds) (x .speed) wish) else x) ⌝ }
+{
+    if x.route == 0 {
+        return x;
+    }
+    let near = trains::is_near(spot.length, margin, x.position);
+    trains::with_speed(x, new_speed(braking, near, spot, x.speed, wish))
+}
+
+pub fn sped_all(
+    tables: Tables,
+    allocations: [u8; 62],
+    wishes: &[u16],
+    trains: [Train; 24],
+) -> [Train; 24]
+    ensures { λ r. ⌜ r ≡ each (sped tables allocations (now (wishes .entry))) trains ⌝ }
+{
+    let mut new = trains;
+    let mut i: usize = 0;
+    while i < 24 {
+        let x = trains[i];
+        let t = (i + 1) as u8;
+        let spot = trains::spot_of(
+            &tables.ways,
+            &tables.lengths,
+            &tables.limits,
+            &allocations,
+            t,
+            x,
+        );
+        let wish = entry_u16(wishes, i + 1);
+        new[i] = sped_train(tables.braking, tables.margin, spot, wish, x);
+        i += 1;
+    }
+    new
+}
+
+// ---- request
+fn requested_train(margin: u32, spot: Spot, x: Train) -> Train
+    ensures { λ r. ⌜ r ≡ (if isOn x then withAsking x (wantsIn (nearIn (spot .length) margin (x .position)) (spot .holds) (spot .next)) else x) ⌝ }
+{
+    if x.route == 0 {
+        return x;
+    }
+    trains::with_asking(x, trains::wants_next(margin, spot, x))
+}
+
+pub fn requested_all(tables: Tables, allocations: [u8; 62], trains: [Train; 24]) -> [Train; 24]
+    ensures { λ r. ⌜ r ≡ each (requested tables allocations) trains ⌝ }
+{
+    let mut new = trains;
+    let mut i: usize = 0;
+    while i < 24 {
+        let x = trains[i];
+        let t = (i + 1) as u8;
+        let spot = trains::spot_of(
+            &tables.ways,
+            &tables.lengths,
+            &tables.limits,
+            &allocations,
+            t,
+            x,
+        );
+        new[i] = requested_train(tables.margin, spot, x);
+        i += 1;
+    }
+    new
+}
+
+// ---- grant
+// The segment that a train asks for; 0 where it asks for none.
+fn asked_by(ways: &[u8; 960], x: Train) -> u8
+    ensures { λ r. ⌜ r ≡ (if x .asks then nextIn (now (ways .entry)) x else 0) ⌝ }
+{
+    if x.asks {
+        return trains::next_of(ways, x);
+    }
+    0
+}
+
+fn asked_all(tables: Tables, trains: [Train; 24]) -> [u8; 24]
+    ensures { λ r. ⌜ r ≡ each (λ t. asked tables) trains ⌝ }
+{
+    let mut new = [0u8; 24];
+    let mut i: usize = 0;
+    while i < 24 {
+        let x = trains[i];
+        new[i] = asked_by(&tables.ways, x);
+        i += 1;
+    }
+    new
+}
+
+// The least number of an entry that is s; 0 where there is none.
+fn served_first(asked: &[u8; 24], s: u8) -> u8
+    ensures { λ r. ⌜ r ≡ least mostTrains (λ t. eqb (at (now (asked .entry)) t) s) ⌝ }
+{
+    let mut i: usize = 0;
+    while i < 24 {
+        if entry_u8(asked, i + 1) == s {
+            return (i + 1) as u8;
+        }
+        i += 1;
+    }
+    0
+}
+
+fn granted_one(asked: &[u8; 24], s: u8, h: u8) -> u8
+    ensures { λ r. ⌜ r ≡ (if eqb h 0 then least mostTrains (λ t. eqb (at (now (asked .entry)) t) s) else h) ⌝ }
+{
+    if h == 0 {
+        return served_first(asked, s);
+    }
+    h
+}
+
+fn granted_by(asked: [u8; 24], allocations: [u8; 62]) -> [u8; 62]
+    ensures { λ r. ⌜ r ≡ each (λ s h. if eqb h 0 then least mostTrains (λ t. eqb (at asked t) s) else h) allocations ⌝ }
+{
+    let mut new = allocations;
+    let mut i: usize = 0;
+    while i < 62 {
+        new[i] = granted_one(&asked, (i + 1) as u8, allocations[i]);
+        i += 1;
+    }
+    new
+}
+
+pub fn granted_all(tables: Tables, trains: [Train; 24], allocations: [u8; 62]) -> [u8; 62]
+    ensures { λ r. ⌜ r ≡ each (granted tables trains) allocations ⌝ }
+{
+    granted_by(asked_all(tables, trains), allocations)
+}
+
+pub fn calmed_all(trains: [Train; 24]) -> [Train; 24]
+    ensures { λ r. ⌜ r ≡ each (λ t. calmed) trains ⌝ }
+{
+    let mut new = trains;
+    let mut i: usize = 0;
+    while i < 24 {
+        let x = trains[i];
+        new[i] = trains::with_asking(x, false);
+        i += 1;
+    }
+    new
+}
+
+// ---- enter and leave
+// Segment s becomes allocated to train t.
+pub fn taken_all(allocations: [u8; 62], s: u8, t: u8) -> [u8; 62]
+    ensures { λ r. ⌜ r ≡ each (takenBy s t) allocations ⌝ }
+{
+    let mut new = allocations;
+    if s == 0 {
+        return new;
+    }
+    let i = s as usize - 1;
+    if 62 <= i {
+        return new;
+    }
+    new[i] = t;
+    new
+}
+
+fn freed_one(t: u8, h: u8) -> u8
+    ensures { λ r. ⌜ r ≡ (if eqb h t then 0 else h) ⌝ }
+{
+    if h == t { 0 } else { h }
+}
+
+// All that is allocated to train t is freed.
+pub fn freed_all(allocations: [u8; 62], t: u8) -> [u8; 62]
+    ensures { λ r. ⌜ r ≡ each (freedBy t) allocations ⌝ }
+{
+    let mut new = allocations;
+    let mut i: usize = 0;
+    while i < 62 {
+        new[i] = freed_one(t, allocations[i]);
+        i += 1;
+    }
+    new
+}
+
+// The train of number t becomes x.
+pub fn with_train(trains: [Train; 24], t: u8, x: Train) -> [Train; 24]
+    ensures { λ r. ⌜ r ≡ each (becomes t x) trains ⌝ }
+{
+    let mut new = trains;
+    if t == 0 {
+        return new;
+    }
+    let i = t as usize - 1;
+    if 24 <= i {
+        return new;
+    }
+    new[i] = x;
+    new
+}

@@ -1,0 +1,66 @@
+-- What a grant does, in the paper's words: an allocated segment keeps its holder; a free segment goes to a train that asked for it,
+-- and no smaller number did; nobody asks afterwards.
+use Prim.Native.Nat.{ℕ, _≤_, _<_}
+use mathlib.Core.Path.{_≡_, refl, sym, _∙_}
+use mathlib.Core.Bool.{Bool, true, false}
+use mathlib.Core.List.{List}
+use native.Mathlib.Omega.{arith}
+use lib.Dec.{eqb}
+use borrow.Author.Tests.{eq-eqb, ne-eqb, eqb-true}
+use Rattle.lists.specs.Words.{if_then_else_, least}
+use Rattle.lists.proofs.Loops.{least-le, least-holds, least-upto}
+use Rattle.tables.specs.declared.Tables.{Tables}
+use Rattle.trains.specs.declared.Train.{Train}
+use Rattle.trains.specs.Train.{mostTrains, trainAt, wanted}
+use Rattle.trains.specs.Steps.{asked, served, granted, calmed}
+
+-- train t asks for segment s
+pub record AsksFor (T : Tables) (trains : List Train) (t s : ℕ) : Type 0 where
+  pub isTrain : (1 ≤ t) × (t ≤ mostTrains)
+  pub asks : trainAt trains t .asks ≡ true
+  pub wants : wanted T (trainAt trains t) ≡ s
+
+chosen : (b : Bool) (w s : ℕ) → 1 ≤ s → (if b then w else 0) ≡ s → (b ≡ true) × (w ≡ s)
+chosen true w s some e = (refl, e)
+chosen false w s some e = absurd (omega arith)
+
+choose : (b : Bool) (w s : ℕ) → b ≡ true → w ≡ s → (if b then w else 0) ≡ s
+choose b w s q e = rw q e
+
+module _ (T : Tables) (trains : List Train) where
+  asks-of : (t s : ℕ) → 1 ≤ s → asked T (trainAt trains t) ≡ s → (trainAt trains t .asks ≡ true) × (wanted T (trainAt trains t) ≡ s)
+  unfolding asked
+  asks-of t s some e = chosen (trainAt trains t .asks) (wanted T (trainAt trains t)) s some e
+
+  of-asks : (t s : ℕ) → AsksFor T trains t s → asked T (trainAt trains t) ≡ s
+  unfolding asked
+  of-asks t s a = choose (trainAt trains t .asks) (wanted T (trainAt trains t)) s (a .asks) (a .wants)
+
+  pub grant-keeps : (s h : ℕ) → 1 ≤ h → granted T trains s h ≡ h
+  unfolding granted
+  grant-keeps s h some = rw (ne-eqb h 0 (λ e. omega arith))
+
+  granted-free : (s : ℕ) → granted T trains s 0 ≡ served T trains s
+  unfolding granted
+  granted-free s = refl
+
+  pub grant-asked : (s t : ℕ) → 1 ≤ s → 1 ≤ t → granted T trains s 0 ≡ t → AsksFor T trains t s
+  unfolding served
+  grant-asked s t some high e =
+      let p : ℕ → Bool = λ n. eqb (asked T (trainAt trains n)) s in
+      let same : least mostTrains p ≡ t = sym (granted-free s) ∙ e in
+      let holds : p t ≡ true = rw same at (least-holds p mostTrains (omega arith)) in
+      let le : t ≤ mostTrains = rw same at (least-le p mostTrains) in
+      let a = asks-of t s some (eqb-true (asked T (trainAt trains t)) s holds) in
+      record { isTrain = (high, le); asks = a .0; wants = a .1 }
+
+  pub grant-least : (s t u : ℕ) → granted T trains s 0 ≡ t → AsksFor T trains u s → (1 ≤ t) × (t ≤ u)
+  unfolding served
+  grant-least s t u e a =
+      let p : ℕ → Bool = λ n. eqb (asked T (trainAt trains n)) s in
+      let same : least mostTrains p ≡ t = sym (granted-free s) ∙ e in
+      let l = least-upto p mostTrains u (a .isTrain .0) (a .isTrain .1) (eq-eqb (asked T (trainAt trains u)) s (of-asks u s a)) in
+      (omega arith, omega arith)
+
+pub calmed-asks : (x : Train) → calmed x .asks ≡ false
+calmed-asks x = refl

@@ -1,0 +1,329 @@
+-- The safety laws of one train on the area: what holds of it, and that each call keeps it. No lists of trains or allocations:
+-- `held` says who holds a segment, `way` is the way since its enter, `got` what grant steps since then allocated to it.
+use Prim.Native.Nat.{ℕ, zero, suc, _+_, _-_, _≤_, _<_, min, max}
+use mathlib.Core.Path.{_≡_, refl, sym, ap, _∙_}
+use mathlib.Core.Logic.{_⊎_, inl, inr, ⊎-elim}
+use mathlib.Core.Bool.{Bool, true, false, not, _&&_, and-false, and-eq-true-iff}
+use native.Mathlib.Omega.{arith}
+use native.Mathlib.Numerals.{add-one}
+use lib.Dec.{leb, ltb, eqb}
+use borrow.Author.Tests.{ltb-true, ltb-false, leb-true, leb-false, eqb-true, eqb-false, lt-ltb, le-ltb, eq-eqb, ne-eqb, lt-leb}
+use Rattle.lists.specs.Words.{if_then_else_, at}
+use Rattle.lists.proofs.Cases.{if-case, by-test, cases, lt-or-le, eq-or-ne, not-both}
+use Rattle.braking.specs.Braking.{S, B}
+use Rattle.braking.proofs.Laws.{S-mono, S-B, B-step, S-above}
+use Rattle.tables.specs.declared.Tables.{Tables}
+use Rattle.tables.specs.Tables.{countOf, segmentAt}
+use Rattle.tables.specs.Facts.{IsSegment, Follows, Consistent}
+use Rattle.trains.specs.declared.Train.{Train}
+use Rattle.trains.specs.Train.{entered, withSpeed, withAsking, movedTo, isOn, ownIn, ownOf, nextIn, nextOf, ownLength, ownLimit, nextLimit, nearIn, near}
+use Rattle.trains.specs.Steps.{speedIn, wantsIn, movesOn, moved}
+use Rattle.trains.specs.Sound.{runIn, toRun}
+use Rattle.trains.specs.Way.{startAfter}
+
+-- next exists and is held by train t
+abbrev pub holdsBy : (ℕ → ℕ) → ℕ → ℕ → Bool
+holdsBy held t next = ltb 0 next && eqb (held next) t
+
+-- place p of route r is one of the tables
+pub record OnRoute (T : Tables) (r p : ℕ) : Type 0 where
+  pub routeLow : 1 ≤ r
+  pub routeHigh : r ≤ T .routes
+  pub placeLow : 1 ≤ p
+  pub placeHigh : p ≤ countOf (T .ways) r
+
+pub record TrainOk (T : Tables) (due : ℕ) (held : ℕ → ℕ) (t : ℕ) (x : Train) (way : ℕ) (got : ℕ → Bool) : Type 0 where
+  pub onRoute : OnRoute T (x .route) (x .place)
+  pub inside : x .position < ownLength T x
+  pub slow : x .speed ≤ ownLimit T x
+  pub holds : held (ownOf T x) ≡ t
+  pub only : (s : ℕ) → held s ≡ t → (s ≡ ownOf T x) ⊎ ((1 ≤ nextOf T x) × (s ≡ nextOf T x) × (got s ≡ true))
+  pub stops : holdsBy held t (nextOf T x) ≡ false → x .position + toRun T due (x .speed) < ownLength T x
+  pub nextSlow : holdsBy held t (nextOf T x) ≡ true → 1 ≤ due → ownLength T x ≤ x .position + x .speed → x .speed ≤ nextLimit T x
+  pub walked : way ≡ startAfter T (x .route) (x .place - 1) + x .position
+  pub asksWell : x .asks ≡ (eqb due 2 && wantsIn (near T x) (holdsBy held t (nextOf T x)) (nextOf T x))
+
+run-now : (b v : ℕ) → runIn b 0 v ≡ B b v
+unfolding runIn
+run-now b v = refl
+
+run-later : (b due v : ℕ) → 1 ≤ due → runIn b due v ≡ S b v
+unfolding runIn
+run-later b due v h = rw (ne-eqb due 0 (λ e. omega arith))
+
+-- the next segment starts where this one ends
+start-step : (T : Tables) (r p : ℕ) → 1 ≤ p → startAfter T r p ≡ startAfter T r (p - 1) + at (T .lengths) (segmentAt (T .ways) r p)
+unfolding startAfter
+start-step T r zero h = absurd (omega arith)
+start-step T r (suc n) h = let e : suc n - 1 ≡ n = omega arith in rw e
+
+module _ (T : Tables) (K : Consistent T) where
+  -- its own segment is one of the area
+  pub own-is : (x : Train) → OnRoute T (x .route) (x .place) → IsSegment T (ownOf T x)
+  unfolding ownIn
+  own-is x o = K .placed (x .route) (x .place) (o .routeLow) (o .routeHigh) (o .placeLow) (o .placeHigh)
+
+  -- its next, where there is one: at the place after its own, to which its own links
+  pub record NextIs (x : Train) : Type 0 where
+    pub later : x .place < countOf (T .ways) (x .route)
+    pub same : nextOf T x ≡ segmentAt (T .ways) (x .route) (x .place + 1)
+    pub follows : Follows T (ownOf T x) (nextOf T x)
+    pub segment : IsSegment T (nextOf T x)
+
+  next-there : (x : Train) → x .place < countOf (T .ways) (x .route) → nextOf T x ≡ segmentAt (T .ways) (x .route) (x .place + 1)
+  unfolding nextIn
+  next-there x h = rw (lt-ltb (x .place) (countOf (T .ways) (x .route)) h)
+
+  next-none : (x : Train) → countOf (T .ways) (x .route) ≤ x .place → nextOf T x ≡ 0
+  unfolding nextIn
+  next-none x h = rw (le-ltb (x .place) (countOf (T .ways) (x .route)) h)
+
+  pub next-is : (x : Train) → OnRoute T (x .route) (x .place) → 1 ≤ nextOf T x → NextIs x
+  unfolding ownIn
+  next-is x o some =
+      cases (lt-or-le (x .place) (countOf (T .ways) (x .route)))
+      (λ h.
+      let e = next-there x h in
+      record {
+        later = h;
+        same = e;
+        follows = rw e (K .stepped (x .route) (x .place) (o .routeLow) (o .routeHigh) (o .placeLow) h);
+        segment = rw e (K .placed (x .route) (x .place + 1) (o .routeLow) (o .routeHigh) (omega arith) (omega arith));
+      })
+      (λ h. absurd (omega (arith, next-none x h)))
+
+  -- a speed up to the limit brakes within the end distance
+  pub in-margin : (x : Train) → OnRoute T (x .route) (x .place) → (v : ℕ) → v ≤ ownLimit T x → S (T .braking) v ≤ T .margin
+  in-margin x o v h =
+      let l = K .limited (ownOf T x) (own-is x o) in
+      omega (arith, S-mono (T .braking) (K .rate) v (T .gmax) (omega arith), K .stops)
+
+  -- what the two parts of `holdsBy` say
+  held-next : (held : ℕ → ℕ) (t next : ℕ) → holdsBy held t next ≡ true → (1 ≤ next) × (held next ≡ t)
+  held-next held t next h =
+      let f = and-eq-true-iff (ltb 0 next) (eqb (held next) t) .0 h in
+      (ltb-true 0 next (f .0), eqb-true (held next) t (f .1))
+
+  next-held : (held : ℕ → ℕ) (t next : ℕ) → 1 ≤ next → held next ≡ t → holdsBy held t next ≡ true
+  next-held held t next some e = rw (lt-ltb 0 next some, eq-eqb (held next) t e)
+
+  -- ---- speed
+  module _ (held : ℕ → ℕ) (t : ℕ) (x : Train) (way : ℕ) (got : ℕ → Bool) (ok : TrainOk T 0 held t x way got) (wish : ℕ) where
+    abbrev speedNow : ℕ
+    speedNow = speedIn (T .braking) (ownLimit T x) (nextLimit T x) (near T x) (holdsBy held t (nextOf T x)) (x .speed) wish
+
+    new-slow : speedNow ≤ ownLimit T x
+    unfolding speedIn
+    new-slow =
+        if-case (λ (v : ℕ). v ≤ ownLimit T x) (near T x && not (holdsBy held t (nextOf T x))) (λ e. omega (arith, ok .slow))
+        (λ e. if-case (λ (h : ℕ). max (x .speed - T .braking) (min h wish) ≤ ownLimit T x) (near T x) (λ n. omega (arith, ok .slow)) (λ n. omega (arith, ok .slow)))
+
+    -- far from the end any speed within the limit stops within the segment
+    far-stops : near T x ≡ false → (v : ℕ) → v ≤ ownLimit T x → x .position + S (T .braking) v < ownLength T x
+    unfolding nearIn
+    far-stops n v h =
+        let l = K .long (ownOf T x) (own-is x (ok .onRoute)) in
+        omega (arith, leb-false (ownLength T x - T .margin) (x .position) n, in-margin x (ok .onRoute) v h)
+
+    new-stops : holdsBy held t (nextOf T x) ≡ false → x .position + S (T .braking) speedNow < ownLength T x
+    unfolding speedIn
+    new-stops o =
+        by-test (near T x)
+        (λ n. rw (n, o) (omega (arith, ok .stops o, run-now (T .braking) (x .speed), B-step (T .braking) (K .rate) (x .speed))))
+        (λ n. far-stops n speedNow new-slow)
+
+    new-next : holdsBy held t (nextOf T x) ≡ true → ownLength T x ≤ x .position + speedNow → speedNow ≤ nextLimit T x
+    unfolding speedIn
+    new-next o h =
+        by-test (near T x)
+        (λ n.
+        let s = next-is x (ok .onRoute) (held-next held t (nextOf T x) o .0) in
+        let g = K .gentle (ownOf T x) (nextOf T x) (own-is x (ok .onRoute)) (s .follows) in
+        rw (n, o) (omega (arith, ok .slow)))
+        (λ n. absurd (omega (arith, far-stops n speedNow new-slow, S-above (T .braking) (K .rate) speedNow)))
+
+    pub speed-ok : TrainOk T 1 held t (withSpeed x speedNow) way got
+    unfolding ownIn nextIn
+    speed-ok =
+        record {
+          onRoute = ok .onRoute;
+          inside = ok .inside;
+          slow = new-slow;
+          holds = ok .holds;
+          only = ok .only;
+          stops = λ o. rw (run-later (T .braking) 1 speedNow (omega arith)) (new-stops o);
+          nextSlow = λ o d h. new-next o h;
+          walked = ok .walked;
+          asksWell = ok .asksWell;
+        }
+
+    -- low is never above the upper end, so that the clamp's order does not matter
+    pub low-high : x .speed - T .braking ≤ (if near T x && holdsBy held t (nextOf T x) then min (ownLimit T x) (nextLimit T x) else ownLimit T x)
+    low-high =
+        if-case (λ (h : ℕ). x .speed - T .braking ≤ h) (near T x && holdsBy held t (nextOf T x))
+        (λ e.
+        let o = and-eq-true-iff (near T x) (holdsBy held t (nextOf T x)) .0 e .1 in
+        let s = next-is x (ok .onRoute) (held-next held t (nextOf T x) o .0) in
+        let g = K .gentle (ownOf T x) (nextOf T x) (own-is x (ok .onRoute)) (s .follows) in
+        omega (arith, ok .slow))
+        (λ e. omega (arith, ok .slow))
+
+  -- ---- who holds what changes
+  module _ (held held′ : ℕ → ℕ) (t next : ℕ) (kept : (s : ℕ) → held s ≡ t → held′ s ≡ t) where
+    holds-kept : holdsBy held t next ≡ true → holdsBy held′ t next ≡ true
+    holds-kept o = let p = held-next held t next o in next-held held′ t next (p .0) (kept next (p .1))
+
+    holds-not : holdsBy held′ t next ≡ false → holdsBy held t next ≡ false
+    holds-not o = by-test (holdsBy held t next) (λ e. not-both (holdsBy held′ t next) (holds-kept e) o) (λ e. e)
+
+  holds-same :
+      (held held′ : ℕ → ℕ) (t next : ℕ) → ((s : ℕ) → held s ≡ t → held′ s ≡ t) → ((s : ℕ) → held′ s ≡ t → held s ≡ t)
+      → holdsBy held t next ≡ holdsBy held′ t next
+  holds-same held held′ t next to from =
+      by-test (holdsBy held t next) (λ e. e ∙ sym (holds-kept held held′ t next to e)) (λ e. e ∙ sym (holds-not held′ held t next from e))
+
+  -- a train whose segments stay as they are
+  pub frame :
+      {due : ℕ} {held held′ : ℕ → ℕ} {t : ℕ} {x : Train} {way : ℕ} {got got′ : ℕ → Bool}
+      → TrainOk T due held t x way got
+      → ((s : ℕ) → held s ≡ t → held′ s ≡ t)
+      → ((s : ℕ) → held′ s ≡ t → held s ≡ t)
+      → ((s : ℕ) → got s ≡ true → got′ s ≡ true)
+      → TrainOk T due held′ t x way got′
+  frame {due} {held} {held′} {t} {x} {way} {got} {got′} ok to from g =
+      record {
+        onRoute = ok .onRoute;
+        inside = ok .inside;
+        slow = ok .slow;
+        holds = to (ownOf T x) (ok .holds);
+        only = λ s e. cases (ok .only s (from s e)) (λ q. inl q) (λ q. inr (q .0, q .1, g s (q .2)));
+        stops = λ o. ok .stops (holds-not held held′ t (nextOf T x) to o);
+        nextSlow = λ o d h. ok .nextSlow (holds-kept held′ held t (nextOf T x) from o) d h;
+        walked = ok .walked;
+        asksWell = ok .asksWell ∙ rw (holds-same held held′ t (nextOf T x) to from);
+      }
+
+  -- ---- request
+  pub request-ok :
+      (held : ℕ → ℕ) (t : ℕ) (x : Train) (way : ℕ) (got : ℕ → Bool) → TrainOk T 1 held t x way got
+      → TrainOk T 2 held t (withAsking x (wantsIn (near T x) (holdsBy held t (nextOf T x)) (nextOf T x))) way got
+  unfolding ownIn nextIn
+  request-ok held t x way got ok =
+      record {
+        onRoute = ok .onRoute;
+        inside = ok .inside;
+        slow = ok .slow;
+        holds = ok .holds;
+        only = ok .only;
+        stops = λ o. rw (run-later (T .braking) 2 (x .speed) (omega arith)) (rw (run-later (T .braking) 1 (x .speed) (omega arith)) at (ok .stops o));
+        nextSlow = λ o d h. ok .nextSlow o (omega arith) h;
+        walked = ok .walked;
+        asksWell = refl;
+      }
+
+  -- ---- grant: a train may gain what it asked for, and loses nothing
+  pub grant-ok :
+      {held held′ : ℕ → ℕ} {t : ℕ} {x : Train} {way : ℕ} {got got′ : ℕ → Bool}
+      → TrainOk T 2 held t x way got
+      → ((s : ℕ) → held s ≡ t → held′ s ≡ t)
+      → ((s : ℕ) → held′ s ≡ t → (held s ≡ t) ⊎ ((1 ≤ nextOf T x) × (s ≡ nextOf T x) × (got′ s ≡ true)))
+      → ((s : ℕ) → got s ≡ true → got′ s ≡ true)
+      → TrainOk T 3 held′ t (withAsking x false) way got′
+  unfolding ownIn nextIn
+  grant-ok {held} {held′} {t} {x} {way} {got} {got′} ok to from g =
+      record {
+        onRoute = ok .onRoute;
+        inside = ok .inside;
+        slow = ok .slow;
+        holds = to (ownOf T x) (ok .holds);
+        only = λ s e. cases (from s e) (λ q. cases (ok .only s q) (λ r. inl r) (λ r. inr (r .0, r .1, g s (r .2)))) (λ q. inr q);
+        stops =
+            λ o.
+            rw (run-later (T .braking) 3 (x .speed) (omega arith)) (rw (run-later (T .braking) 2 (x .speed) (omega arith)) at (ok .stops (holds-not held held′ t (nextOf T x) to o)));
+        nextSlow =
+            λ o d h.
+            by-test (holdsBy held t (nextOf T x)) (λ e. ok .nextSlow e (omega arith) h)
+            (λ e. absurd (omega (arith, rw (run-later (T .braking) 2 (x .speed) (omega arith)) at (ok .stops e), S-above (T .braking) (K .rate) (x .speed))));
+        walked = ok .walked;
+        asksWell = refl;
+      }
+
+  -- ---- position
+  module _ (held : ℕ → ℕ) (t : ℕ) (x : Train) (way : ℕ) (got : ℕ → Bool) (ok : TrainOk T 3 held t x way got) where
+    later-stops : holdsBy held t (nextOf T x) ≡ false → x .position + S (T .braking) (x .speed) < ownLength T x
+    later-stops o = rw (run-later (T .braking) 3 (x .speed) (omega arith)) at (ok .stops o)
+
+    pub further-ok : x .position + x .speed < ownLength T x → TrainOk T 0 held t (movedTo x (x .place) (x .position + x .speed)) (way + x .speed) got
+    unfolding ownIn nextIn
+    further-ok short =
+        record {
+          onRoute = ok .onRoute;
+          inside = short;
+          slow = ok .slow;
+          holds = ok .holds;
+          only = ok .only;
+          stops = λ o. rw (run-now (T .braking) (x .speed)) (omega (arith, later-stops o, S-B (T .braking) (K .rate) (x .speed)));
+          nextSlow = λ o d h. absurd (omega arith);
+          walked = omega (arith, ok .walked);
+          asksWell = ok .asksWell;
+        }
+
+    -- a train that moves on holds its next
+    move-held : ownLength T x ≤ x .position + x .speed → holdsBy held t (nextOf T x) ≡ true
+    move-held past =
+        by-test (holdsBy held t (nextOf T x)) (λ e. e) (λ e. absurd (omega (arith, later-stops e, S-above (T .braking) (K .rate) (x .speed))))
+
+    -- it stands on its next, which rises above its old segment and is long enough to stop in
+    pub move-ok :
+        (held′ : ℕ → ℕ) → ownLength T x ≤ x .position + x .speed
+        → ((s : ℕ) → held s ≡ t → (s ≡ ownOf T x → ⊥) → held′ s ≡ t)
+        → ((s : ℕ) → held′ s ≡ t → (held s ≡ t) × (s ≡ ownOf T x → ⊥))
+        → TrainOk T 0 held′ t (movedTo x (x .place + 1) (x .position + x .speed - ownLength T x)) (way + x .speed) got
+    unfolding ownIn
+    move-ok held′ past to from =
+        let n = move-held past in
+        let p = held-next held t (nextOf T x) n in
+        let s = next-is x (ok .onRoute) (p .0) in
+        let up = K .rises (ownOf T x) (nextOf T x) (own-is x (ok .onRoute)) (s .follows) in
+        let long = K .long (nextOf T x) (s .segment) in
+        let fast = K .limited (ownOf T x) (own-is x (ok .onRoute)) in
+        let e : segmentAt (T .ways) (x .route) (x .place + 1) ≡ nextOf T x = sym (s .same) in
+        let back : x .place + 1 - 1 ≡ x .place = omega arith in
+        let w : startAfter T (x .route) (x .place + 1 - 1) ≡ startAfter T (x .route) (x .place - 1) + ownLength T x = rw back (start-step T (x .route) (x .place) (ok .onRoute .placeLow)) in
+        record {
+          onRoute = record { routeLow = ok .onRoute .routeLow; routeHigh = ok .onRoute .routeHigh; placeLow = omega arith; placeHigh = omega (arith, s .later) };
+          inside = rw e (omega (arith, ok .inside, ok .slow));
+          slow = rw e (ok .nextSlow n (omega arith) past);
+          holds = rw e (to (nextOf T x) (p .1) (λ q. omega arith));
+          only = λ z h. cases (ok .only z (from z h .0)) (λ q. absurd (from z h .1 q)) (λ q. inl (rw e (q .1)));
+          stops = λ o. rw e (omega (arith, run-now (T .braking) (x .speed), ok .inside, S-B (T .braking) (K .rate) (x .speed), in-margin x (ok .onRoute) (x .speed) (ok .slow)));
+          nextSlow = λ o d h. absurd (omega arith);
+          walked = omega (arith, ok .walked, w);
+          asksWell = ok .asksWell;
+        }
+
+  -- ---- enter
+  pub enter-ok :
+      (due : ℕ) (held : ℕ → ℕ) (t r v : ℕ) (got : ℕ → Bool)
+      → 1 ≤ r → r ≤ T .routes → v ≤ ownLimit T (entered r v)
+      → held (ownOf T (entered r v)) ≡ t
+      → ((s : ℕ) → held s ≡ t → s ≡ ownOf T (entered r v))
+      → TrainOk T due held t (entered r v) 0 got
+  unfolding startAfter runIn nearIn wantsIn
+  enter-ok due held t r v got low high slow h only =
+      let o : OnRoute T r 1 = record { routeLow = low; routeHigh = high; placeLow = omega arith; placeHigh = K .counted r low high .0 } in
+      let long = K .long (ownOf T (entered r v)) (own-is (entered r v) o) in
+      let stop = in-margin (entered r v) o v slow in
+      record {
+        onRoute = o;
+        inside = omega arith;
+        slow = slow;
+        holds = h;
+        only = λ s e. inl (only s e);
+        stops =
+            λ q.
+            if-case (λ (w : ℕ). 0 + w < ownLength T (entered r v)) (eqb due 0) (λ e. omega (arith, S-B (T .braking) (K .rate) v)) (λ e. omega arith);
+        nextSlow = λ q d e. absurd (omega (arith, S-above (T .braking) (K .rate) v));
+        walked = refl;
+        asksWell = rw (lt-leb (ownLength T (entered r v) - T .margin) 0 (omega arith)) (sym (and-false (eqb due 2)));
+      }

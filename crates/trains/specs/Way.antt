@@ -1,0 +1,10 @@
+-- Where the segments of a route start, counted along the route from its entry (document 01, "Whole runs").
+use Prim.Native.Nat.{ℕ, zero, suc, _+_}
+use Rattle.lists.specs.Words.{at}
+use Rattle.tables.specs.declared.Tables.{Tables}
+use Rattle.tables.specs.Tables.{segmentAt}
+
+-- the summed lengths of the first n segments of route r: segment n + 1 of the route starts there
+unfoldable pub startAfter : Tables → ℕ → ℕ → ℕ
+startAfter T r zero = 0
+startAfter T r (suc n) = startAfter T r n + at (T .lengths) (segmentAt (T .ways) r (suc n))
