@@ -1,2 +1,4 @@
 pub mod Answers
 pub mod Loading
+pub mod Laws
+pub mod Soundness

@@ -92,13 +92,13 @@ pub fn sped_all(
 }
 
 // ---- request
-fn requested_train(margin: u32, spot: Spot, x: Train) -> Train
-    ensures { λ r. ⌜ r ≡ (if isOn x then withAsking x (wantsIn (nearIn (spot .length) margin (x .position)) (spot .holds) (spot .next)) else x) ⌝ }
+fn requested_train(margin: u32, spot: Spot, train: Train) -> Train
+    ensures { λ r. ⌜ r ≡ (if isOn train then withAsking train (wantsIn (nearIn (spot .length) margin (train .position)) (spot .holds) (spot .next)) else train) ⌝ }
 {
-    if x.route == 0 {
-        return x;
+    if train.route == 0 {
+        return train;
     }
-    trains::with_asking(x, trains::wants_next(margin, spot, x))
+    trains::with_asking(train, trains::wants_next(margin, spot, train))
 }
 
 pub fn requested_all(tables: Tables, allocations: [u8; 62], trains: [Train; 24]) -> [Train; 24]

@@ -107,6 +107,19 @@ module _ (T : Tables) (K : Consistent T) where
   next-held : (held : ℕ → ℕ) (t next : ℕ) → 1 ≤ next → held next ≡ t → holdsBy held t next ≡ true
   next-held held t next some e = rw (lt-ltb 0 next some, eq-eqb (held next) t e)
 
+  -- low is never above the upper end, so that the order in which a clamp looks at its ends plays no part
+  pub low-high :
+      (held : ℕ → ℕ) (t : ℕ) (x : Train) → OnRoute T (x .route) (x .place) → x .speed ≤ ownLimit T x
+      → x .speed - T .braking ≤ (if near T x && holdsBy held t (nextOf T x) then min (ownLimit T x) (nextLimit T x) else ownLimit T x)
+  low-high held t x o slow =
+      if-case (λ (h : ℕ). x .speed - T .braking ≤ h) (near T x && holdsBy held t (nextOf T x))
+      (λ e.
+      let q = and-eq-true-iff (near T x) (holdsBy held t (nextOf T x)) .0 e .1 in
+      let s = next-is x o (held-next held t (nextOf T x) q .0) in
+      let g = K .gentle (ownOf T x) (nextOf T x) (own-is x o) (s .follows) in
+      omega arith)
+      (λ e. omega arith)
+
   -- ---- speed
   module _ (held : ℕ → ℕ) (t : ℕ) (x : Train) (way : ℕ) (got : ℕ → Bool) (ok : TrainOk T 0 held t x way got) (wish : ℕ) where
     abbrev speedNow : ℕ
@@ -156,17 +169,6 @@ module _ (T : Tables) (K : Consistent T) where
           walked = ok .walked;
           asksWell = ok .asksWell;
         }
-
-    -- low is never above the upper end, so that the clamp's order does not matter
-    pub low-high : x .speed - T .braking ≤ (if near T x && holdsBy held t (nextOf T x) then min (ownLimit T x) (nextLimit T x) else ownLimit T x)
-    low-high =
-        if-case (λ (h : ℕ). x .speed - T .braking ≤ h) (near T x && holdsBy held t (nextOf T x))
-        (λ e.
-        let o = and-eq-true-iff (near T x) (holdsBy held t (nextOf T x)) .0 e .1 in
-        let s = next-is x (ok .onRoute) (held-next held t (nextOf T x) o .0) in
-        let g = K .gentle (ownOf T x) (nextOf T x) (own-is x (ok .onRoute)) (s .follows) in
-        omega (arith, ok .slow))
-        (λ e. omega (arith, ok .slow))
 
   -- ---- who holds what changes
   module _ (held held′ : ℕ → ℕ) (t next : ℕ) (kept : (s : ℕ) → held s ≡ t → held′ s ≡ t) where

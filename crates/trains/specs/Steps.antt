@@ -90,3 +90,10 @@ isExit T s = eqb (at (T .flags) s / 2) 1
 -- its segment is the route's last
 abbrev pub isLast : Tables → Train → Bool
 isLast T x = eqb (x .place) (countOf (T .ways) (x .route))
+
+-- the ends of a train's speed range: from low up to the segment's limit, or near with next allocated to it up to the smaller of both
+abbrev pub low : Tables → Train → ℕ
+low T x = x .speed - T .braking
+
+abbrev pub highest : Tables → List ℕ → ℕ → Train → ℕ
+highest T A t x = if near T x && holdsNext T A t x then min (ownLimit T x) (nextLimit T x) else ownLimit T x

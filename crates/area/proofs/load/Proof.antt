@@ -1,4 +1,3 @@
-use mathlib.Core.Path.{_∙_}
 use borrow.Author.Needs.{needs}
 use Rattle.area.proofs.Loading.{loaded-by-reading}
 use Rattle.area.proofs.load.Statement.{statement}

@@ -1,0 +1,116 @@
+-- The test of a sound record decides the facts that it stands for; the blank record is unsound, and one fresh from load is sound.
+use Prim.Native.Nat.{ℕ, _≤_, _<_}
+use mathlib.Core.Path.{_≡_, refl, sym, ap, _∙_}
+use mathlib.Core.Logic.{_⊎_, inl, inr, _↔_}
+use mathlib.Core.Bool.{Bool, true, false, _&&_}
+use mathlib.Core.List.{List}
+use native.Mathlib.Omega.{arith}
+use lib.Dec.{leb, eqb}
+use borrow.Author.Tests.{leb-true, le-leb, eq-eqb, ne-eqb}
+use Rattle.lists.specs.Words.{at, every}
+use Rattle.lists.proofs.Cases.{and-iff, cases, lt-or-le, eq-or-ne}
+use Rattle.lists.proofs.Loops.{every-at, every-all}
+use Rattle.lists.proofs.Numbered.{nth-replicate}
+use Rattle.tables.specs.Bounds.{mostSegments}
+use Rattle.tables.specs.Tables.{blankTables}
+use Rattle.tables.specs.Rules.{headerIn, meets}
+use Rattle.tables.specs.Facts.{Meets}
+use Rattle.tables.proofs.Consistency.{consistent, meets-iff}
+use Rattle.reading.specs.Decoding.{decoded}
+use Rattle.reading.specs.Verdict.{accepted}
+use Rattle.reading.proofs.Accepted.{accepted-iff}
+use Rattle.reading.proofs.View.{tables-meet}
+use Rattle.trains.specs.Train.{mostTrains, off, trainAt, holdsIn}
+use Rattle.trains.specs.Steps.{low, highest}
+use Rattle.trains.specs.Sound.{trainSound, allocationSound}
+use Rattle.trains.specs.SoundFacts.{SoundTrain, SoundAllocation}
+use Rattle.trains.proofs.Safety.{low-high}
+use Rattle.trains.proofs.Soundness.{train-iff, off-iff, allocation-iff}
+use Rattle.area.specs.declared.Area.{Area}
+use Rattle.area.specs.Load.{fresh, blank}
+use Rattle.area.specs.Sound.{sound}
+use Rattle.area.specs.SoundFacts.{SoundArea}
+
+module _ (a : Area) where
+  abbrev trainTest : ℕ → Bool
+  trainTest t = trainSound (a .tables) (a .allocations) (a .due) t (trainAt (a .trains) t)
+
+  abbrev allocationTest : ℕ → Bool
+  allocationTest s = allocationSound (a .tables) (a .trains) s (at (a .allocations) s)
+
+  -- an allocation of 0 is sound
+  none-sound : (s : ℕ) → at (a .allocations) s ≡ 0 → allocationTest s ≡ true
+  unfolding allocationSound
+  none-sound s e = rw (eq-eqb (at (a .allocations) s) 0 e)
+
+  sound-facts : sound a ≡ true → SoundArea a
+  unfolding sound
+  sound-facts h =
+      let f = simp and-iff at h in
+      let each-train = every-at trainTest mostTrains (f .0 .1) in
+      let each-segment = every-at allocationTest mostSegments (f .1) in
+      record {
+        tables = meets-iff (a .tables) .0 (f .0 .0 .0);
+        due = leb-true (a .due) 3 (f .0 .0 .1);
+        offs = λ t low high z. off-iff (a .tables) (a .allocations) (a .due) t (trainAt (a .trains) t) z .0 (each-train t low high);
+        ons = λ t low high o. train-iff (a .tables) (a .allocations) (a .due) t (trainAt (a .trains) t) o .0 (each-train t low high);
+        allocations =
+            λ s low high.
+            cases (eq-or-ne (at (a .allocations) s) 0) (λ z. inl z)
+            (λ n. inr (allocation-iff (a .tables) (a .trains) s (at (a .allocations) s) (omega arith) .0 (each-segment s low high)));
+      }
+
+  facts-sound : SoundArea a → sound a ≡ true
+  unfolding sound
+  facts-sound f =
+      let each-train : (t : ℕ) → 1 ≤ t → t ≤ mostTrains → trainTest t ≡ true =
+      λ t low high.
+      cases (lt-or-le 0 (trainAt (a .trains) t .route))
+      (λ o. train-iff (a .tables) (a .allocations) (a .due) t (trainAt (a .trains) t) o .1 (f .ons t low high o))
+      (λ z. off-iff (a .tables) (a .allocations) (a .due) t (trainAt (a .trains) t) (omega arith) .1 (f .offs t low high (omega arith))) in
+      let each-segment : (s : ℕ) → 1 ≤ s → s ≤ mostSegments → allocationTest s ≡ true =
+      λ s low high.
+      cases (eq-or-ne (at (a .allocations) s) 0) (none-sound s)
+      (λ n.
+      cases (f .allocations s low high) (λ z. none-sound s z)
+      (λ g. allocation-iff (a .tables) (a .trains) s (at (a .allocations) s) (omega arith) .1 g)) in
+      rw (
+        meets-iff (a .tables) .1 (f .tables),
+        le-leb (a .due) 3 (f .due),
+        every-all trainTest mostTrains each-train,
+        every-all allocationTest mostSegments each-segment,
+      )
+
+  -- THE CLAIM: the test decides the facts
+  pub sound-iff : (sound a ≡ true) ↔ SoundArea a
+  sound-iff = (sound-facts, facts-sound)
+
+-- THE CLAIM: the blank record is unsound
+pub blank-unsound : sound blank ≡ false
+unfolding sound meets headerIn blank blankTables
+blank-unsound = refl
+
+-- THE CLAIM: a record fresh from load is sound
+pub fresh-sound : (file : List ℕ) → accepted file ≡ true → sound (fresh (decoded file)) ≡ true
+unfolding fresh
+fresh-sound file e =
+    facts-sound (fresh (decoded file))
+    (record {
+      tables = tables-meet file (accepted-iff file .0 e);
+      due = omega arith;
+      offs = λ t low high z. nth-replicate off 24 t;
+      ons = λ t low high o. absurd (omega (arith, ap (λ x. x .route) (nth-replicate off 24 t)));
+      allocations = λ s low high. inl (nth-replicate 0 62 s);
+    })
+
+-- THE CLAIM: in a sound record low ≤ the upper end of every train's speed range
+pub range-sound :
+    (a : Area) → SoundArea a → (t : ℕ) → 1 ≤ t → t ≤ mostTrains → 1 ≤ trainAt (a .trains) t .route
+    → low (a .tables) (trainAt (a .trains) t) ≤ highest (a .tables) (a .allocations) t (trainAt (a .trains) t)
+unfolding holdsIn
+range-sound a f t from to on =
+    let x = trainAt (a .trains) t in
+    let s = f .ons t from to on in
+    low-high (a .tables) (consistent (a .tables) (f .tables)) (at (a .allocations)) t x
+    (record { routeLow = on; routeHigh = s .route; placeLow = s .place .0; placeHigh = s .place .1 })
+    (s .speed)

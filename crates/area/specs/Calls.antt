@@ -1,0 +1,160 @@
+-- The calls on an area (document 01, "The calls" and "Refusals" 11 to 21). Each has its tests in the paper's order, of which the
+-- first that holds is the answer, and the record that it hands back when none holds; a refusal hands back the record as it came.
+use Prim.Native.Nat.{ℕ}
+use mathlib.Core.Bool.{Bool, not, _&&_}
+use mathlib.Core.List.{List, [], _∷_}
+use lib.Dec.{leb, ltb, eqb}
+use lib.ListN.{length}
+use Rattle.lists.specs.Words.{if_then_else_, at, each}
+use Rattle.lists.specs.Tests.{Test, _⇒_, firstOf}
+use Rattle.tables.specs.declared.Tables.{Tables}
+use Rattle.summary.specs.Summary.{summaryOf}
+use Rattle.trains.specs.declared.Train.{Train}
+use Rattle.trains.specs.Train.{mostTrains, off, entered, trainAt, isOn, ownOf}
+use Rattle.trains.specs.Steps.{sped, requested, granted, calmed, moved, freed, firstSegment, takenBy, freedBy, becomes, isEntry, isExit, isLast}
+use Rattle.area.specs.declared.Area.{Area}
+use Rattle.area.specs.declared.Outcome.{Outcome}
+use Rattle.area.specs.declared.Report.{Report}
+use Rattle.area.specs.Answers.{answerOf}
+use Rattle.area.specs.Sound.{sound}
+
+-- the first test that holds refuses; where none does, the step is finished
+abbrev pub outcomeBy : Test → Area → Area → Outcome
+outcomeBy t new old = record { answer = answerOf (t .number) (t .place); area = if t .holds then old else new }
+
+abbrev pub outcome : List Test → Area → Area → Outcome
+outcome tests new old = outcomeBy (firstOf tests) new old
+
+-- the steps due, in their order
+abbrev pub speedDue : ℕ
+speedDue = 0
+
+abbrev pub requestDue : ℕ
+requestDue = 1
+
+abbrev pub grantDue : ℕ
+grantDue = 2
+
+abbrev pub positionDue : ℕ
+positionDue = 3
+
+-- 12: a cycle step not due
+abbrev pub notDue : ℕ → Area → Bool
+notDue step a = not (eqb (a .due) step)
+
+-- 13: number not 1 to 24; 16: not 1 to R
+abbrev pub noTrain : ℕ → Bool
+noTrain t = not (leb 1 t && leb t mostTrains)
+
+abbrev pub noRoute : Tables → ℕ → Bool
+noRoute T r = not (leb 1 r && leb r (T .routes))
+
+-- ---- enter (train t, route r, speed v): the tests of the train, and the tests of the route
+abbrev pub admissionTests : Area → ℕ → List Test → List Test
+admissionTests a t rest = not (sound a) ⇒ 11 ∷ noTrain t ⇒ 13 ∷ isOn (trainAt (a .trains) t) ⇒ 14 ∷ rest
+
+abbrev pub routeTests : Area → ℕ → ℕ → List Test
+routeTests a r v =
+    noRoute (a .tables) r ⇒ 16
+    ∷ not (isEntry (a .tables) (firstSegment (a .tables) r)) ⇒ 17
+    ∷ ltb 0 (at (a .allocations) (firstSegment (a .tables) r)) ⇒ 18
+    ∷ ltb (at (a .tables .limits) (firstSegment (a .tables) r)) v ⇒ 19
+    ∷ []
+
+abbrev pub enterTests : Area → ℕ → ℕ → ℕ → List Test
+enterTests a t r v = admissionTests a t (routeTests a r v)
+
+unfoldable pub afterEnter : Area → ℕ → ℕ → ℕ → Area
+afterEnter a t r v =
+    record {
+      tables = a .tables;
+      allocations = each (takenBy (firstSegment (a .tables) r) t) (a .allocations);
+      trains = each (becomes t (entered r v)) (a .trains);
+      due = a .due;
+    }
+
+unfoldable pub enterCall : Area → ℕ → ℕ → ℕ → Outcome
+enterCall a t r v = outcome (enterTests a t r v) (afterEnter a t r v) a
+
+-- ---- leave (train t)
+abbrev pub leaveTests : Area → ℕ → List Test
+leaveTests a t =
+    not (sound a) ⇒ 11
+    ∷ noTrain t ⇒ 13
+    ∷ not (isOn (trainAt (a .trains) t)) ⇒ 15
+    ∷ not (isLast (a .tables) (trainAt (a .trains) t) && isExit (a .tables) (ownOf (a .tables) (trainAt (a .trains) t))) ⇒ 20
+    ∷ []
+
+unfoldable pub afterLeave : Area → ℕ → Area
+afterLeave a t =
+    record { tables = a .tables; allocations = each (freedBy t) (a .allocations); trains = each (becomes t off) (a .trains); due = a .due }
+
+unfoldable pub leaveCall : Area → ℕ → Outcome
+leaveCall a t = outcome (leaveTests a t) (afterLeave a t) a
+
+-- ---- speed, with wishes
+abbrev pub speedTests : Area → List ℕ → List Test
+speedTests a wishes = not (sound a) ⇒ 11 ∷ notDue speedDue a ⇒ 12 ∷ not (eqb (length wishes) mostTrains) ⇒ 21 ∷ []
+
+unfoldable pub afterSpeed : Area → List ℕ → Area
+afterSpeed a wishes =
+    record {
+      tables = a .tables;
+      allocations = a .allocations;
+      trains = each (sped (a .tables) (a .allocations) wishes) (a .trains);
+      due = requestDue;
+    }
+
+unfoldable pub speedCall : Area → List ℕ → Outcome
+speedCall a wishes = outcome (speedTests a wishes) (afterSpeed a wishes) a
+
+-- ---- request, grant, position
+abbrev pub stepTests : ℕ → Area → List Test
+stepTests step a = not (sound a) ⇒ 11 ∷ notDue step a ⇒ 12 ∷ []
+
+unfoldable pub afterRequest : Area → Area
+afterRequest a =
+    record {
+      tables = a .tables;
+      allocations = a .allocations;
+      trains = each (requested (a .tables) (a .allocations)) (a .trains);
+      due = grantDue;
+    }
+
+unfoldable pub requestCall : Area → Outcome
+requestCall a = outcome (stepTests requestDue a) (afterRequest a) a
+
+unfoldable pub afterGrant : Area → Area
+afterGrant a =
+    record {
+      tables = a .tables;
+      allocations = each (granted (a .tables) (a .trains)) (a .allocations);
+      trains = each (λ (t : ℕ). calmed) (a .trains);
+      due = positionDue;
+    }
+
+unfoldable pub grantCall : Area → Outcome
+grantCall a = outcome (stepTests grantDue a) (afterGrant a) a
+
+unfoldable pub afterPosition : Area → Area
+afterPosition a =
+    record {
+      tables = a .tables;
+      allocations = each (freed (a .tables) (a .trains)) (a .allocations);
+      trains = each (λ (t : ℕ). moved (a .tables)) (a .trains);
+      due = speedDue;
+    }
+
+unfoldable pub positionCall : Area → Outcome
+positionCall a = outcome (stepTests positionDue a) (afterPosition a) a
+
+-- ---- report: on refusal zeros
+unfoldable pub reported : Area → Report
+reported a =
+    if sound a
+    then record {
+      answer = answerOf 0 0;
+      allocated = summaryOf (a .allocations) (a .tables .segments) .allocated;
+      free = summaryOf (a .allocations) (a .tables .segments) .free;
+    }
+    else record { answer = answerOf 11 0; allocated = 0; free = 0 }
