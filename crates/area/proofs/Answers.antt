@@ -1,10 +1,8 @@
 -- The number and the place of an answer are those that it was made of.
 use Prim.Native.Nat.{ℕ}
-use mathlib.Core.Path.{_≡_, refl}
-use native.Mathlib.Omega.{arith}
+use mathlib.Core.Path.{_≡_}
 use borrow.Author.Tests.{eq-eqb, ne-eqb}
 use Rattle.lists.proofs.Cases.{cases, eq-or-ne}
-use Rattle.area.specs.declared.Answer.{Answer}
 use Rattle.area.specs.declared.Answer.the-variants.{Done, Refused}
 use Rattle.area.specs.Answers.{answerOf, numberOf, placeOf}
 

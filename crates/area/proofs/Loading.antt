@@ -1,26 +1,21 @@
 -- Load by way of what is read of the file, and what its answer tells.
 use Prim.Native.Nat.{ℕ}
-use mathlib.Core.Path.{_≡_, refl, sym, ap, _∙_}
-use mathlib.Core.Bool.{Bool, true, false}
+use mathlib.Core.Path.{_≡_, refl, sym, _∙_}
+use mathlib.Core.Bool.{true, false}
 use mathlib.Core.Logic.{_↔_}
-use mathlib.Core.List.{List, [], _∷_}
-use lib.ListN.{replicate}
-use lib.Dec.{eqb}
+use mathlib.Core.List.{List}
 use borrow.Author.Tests.{eqb-true, eq-eqb, not-true, not-false}
-use Rattle.lists.specs.Words.{if_then_else_, at}
 use Rattle.lists.proofs.Cases.{by-test, first-none}
 use Rattle.lists.proofs.Numbered.{nth-replicate}
 use Rattle.tables.specs.Tables.{blankTables}
 use Rattle.reading.specs.Decoding.{decoded}
-use Rattle.reading.specs.Verdict.{verdict, accepted, readingBy, readingOf}
-use Rattle.reading.specs.Acceptance.{MeetsRules, Placed}
+use Rattle.reading.specs.Verdict.{verdict, accepted, readingOf}
+use Rattle.reading.specs.Acceptance.{MeetsRules}
 use Rattle.reading.proofs.Accepted.{loadTests, accepted-iff, number-zero, refusal-placed}
 use Rattle.trains.specs.Train.{off}
-use Rattle.area.specs.declared.Outcome.{Outcome}
-use Rattle.area.specs.declared.Answer.the-variants.{Done}
 use Rattle.area.specs.Answers.{answerOf, numberOf, placeOf}
 use Rattle.area.specs.Load.{fresh, blank, loaded, AllZero}
-use Rattle.area.proofs.Answers.{number-of-answer, place-of-answer, answer-done}
+use Rattle.area.proofs.Answers.{number-of-answer, place-of-answer}
 
 module _ (file : List ℕ) where
   blank-fresh : fresh blankTables ≡ blank

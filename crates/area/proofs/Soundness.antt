@@ -1,29 +1,26 @@
 -- The test of a sound record decides the facts that it stands for; the blank record is unsound, and one fresh from load is sound.
-use Prim.Native.Nat.{ℕ, _≤_, _<_}
-use mathlib.Core.Path.{_≡_, refl, sym, ap, _∙_}
-use mathlib.Core.Logic.{_⊎_, inl, inr, _↔_}
-use mathlib.Core.Bool.{Bool, true, false, _&&_}
+use Prim.Native.Nat.{ℕ, _≤_}
+use mathlib.Core.Path.{_≡_, refl, ap}
+use mathlib.Core.Logic.{inl, inr, _↔_}
+use mathlib.Core.Bool.{Bool, true, false}
 use mathlib.Core.List.{List}
 use native.Mathlib.Omega.{arith}
-use lib.Dec.{leb, eqb}
-use borrow.Author.Tests.{leb-true, le-leb, eq-eqb, ne-eqb}
-use Rattle.lists.specs.Words.{at, every}
+use borrow.Author.Tests.{leb-true, le-leb, eq-eqb}
+use Rattle.lists.specs.Words.{at}
 use Rattle.lists.proofs.Cases.{and-iff, cases, lt-or-le, eq-or-ne}
 use Rattle.lists.proofs.Loops.{every-at, every-all}
 use Rattle.lists.proofs.Numbered.{nth-replicate}
 use Rattle.tables.specs.Bounds.{mostSegments}
 use Rattle.tables.specs.Tables.{blankTables}
 use Rattle.tables.specs.Rules.{headerIn, meets}
-use Rattle.tables.specs.Facts.{Meets}
 use Rattle.tables.proofs.Consistency.{consistent, meets-iff}
 use Rattle.reading.specs.Decoding.{decoded}
 use Rattle.reading.specs.Verdict.{accepted}
 use Rattle.reading.proofs.Accepted.{accepted-iff}
 use Rattle.reading.proofs.View.{tables-meet}
 use Rattle.trains.specs.Train.{mostTrains, off, trainAt, holdsIn}
-use Rattle.trains.specs.Steps.{low, highest}
+use Rattle.trains.specs.Steps.{low, upperEnd}
 use Rattle.trains.specs.Sound.{trainSound, allocationSound}
-use Rattle.trains.specs.SoundFacts.{SoundTrain, SoundAllocation}
 use Rattle.trains.proofs.Safety.{low-high}
 use Rattle.trains.proofs.Soundness.{train-iff, off-iff, allocation-iff}
 use Rattle.area.specs.declared.Area.{Area}
@@ -106,7 +103,7 @@ fresh-sound file e =
 -- THE CLAIM: in a sound record low ≤ the upper end of every train's speed range
 pub range-sound :
     (a : Area) → SoundArea a → (t : ℕ) → 1 ≤ t → t ≤ mostTrains → 1 ≤ trainAt (a .trains) t .route
-    → low (a .tables) (trainAt (a .trains) t) ≤ highest (a .tables) (a .allocations) t (trainAt (a .trains) t)
+    → low (a .tables) (trainAt (a .trains) t) ≤ upperEnd (a .tables) (a .allocations) t (trainAt (a .trains) t)
 unfolding holdsIn
 range-sound a f t from to on =
     let x = trainAt (a .trains) t in

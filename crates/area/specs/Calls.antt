@@ -9,7 +9,6 @@ use Rattle.lists.specs.Words.{if_then_else_, at, each}
 use Rattle.lists.specs.Tests.{Test, _⇒_, firstOf}
 use Rattle.tables.specs.declared.Tables.{Tables}
 use Rattle.summary.specs.Summary.{summaryOf}
-use Rattle.trains.specs.declared.Train.{Train}
 use Rattle.trains.specs.Train.{mostTrains, off, entered, trainAt, isOn, ownOf}
 use Rattle.trains.specs.Steps.{sped, requested, granted, calmed, moved, freed, firstSegment, takenBy, freedBy, becomes, isEntry, isExit, isLast}
 use Rattle.area.specs.declared.Area.{Area}

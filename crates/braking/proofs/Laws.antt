@@ -1,5 +1,5 @@
 -- Laws of S and B, for a braking rate b of at least 1.
-use Prim.Native.Nat.{ℕ, zero, suc, _+_, _-_, _*_, _≤_, _<_}
+use Prim.Native.Nat.{ℕ, zero, suc, _+_, _-_, _*_, _≤_}
 use mathlib.Core.Path.{_≡_, refl, sym, ap, _∙_}
 use native.Mathlib.Nat.{le-trans, le-refl, zero-sub, mul-le-mul, add-le-add}
 use native.Mathlib.Omega.{arith}

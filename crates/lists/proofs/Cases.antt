@@ -8,7 +8,7 @@ use native.Mathlib.Omega.{arith}
 use lib.Dec.{leb, ltb, eqb}
 use borrow.Author.Tests.{ltb-true, ltb-false, leb-true, leb-false, eqb-true, eqb-false, le-leb, lt-leb, eq-eqb, ne-eqb, not-true, not-false}
 use Rattle.lists.specs.Words.{if_then_else_}
-use Rattle.lists.specs.Tests.{Test, firstOf, conditionOf, placeIn}
+use Rattle.lists.specs.Tests.{Test, firstOf, conditionOf, placeNamed}
 
 -- a fact of a choice, from the two cases with the test's equation
 pub if-case : {A : Type 0} {a b : A} (P : A → Type 0) (t : Bool) → (t ≡ true → P a) → (t ≡ false → P b) → P (if t then a else b)
@@ -97,7 +97,7 @@ first-above k (t ∷ ts) up h = go (t .holds) refl (first-above (t .number) ts)
 -- the first test that holds is the one of its number
 pub first-named :
     (n k : ℕ) (ts : List Test) → rising k ts ≡ true → firstOf ts .holds ≡ true → firstOf ts .number ≡ n
-    → (conditionOf n ts ≡ true) × (firstOf ts .place ≡ placeIn n ts)
+    → (conditionOf n ts ≡ true) × (firstOf ts .place ≡ placeNamed n ts)
 first-named n k [] up h e = not-both true refl (sym h)
 first-named n k (t ∷ ts) up h e = go (t .holds) refl (first-named n (t .number) ts)
   where
@@ -106,9 +106,9 @@ first-named n k (t ∷ ts) up h e = go (t .holds) refl (first-named n (t .number
 
     go :
         (b : Bool) → t .holds ≡ b
-        → (rising (t .number) ts ≡ true → firstOf ts .holds ≡ true → firstOf ts .number ≡ n → (conditionOf n ts ≡ true) × (firstOf ts .place ≡ placeIn n ts))
+        → (rising (t .number) ts ≡ true → firstOf ts .holds ≡ true → firstOf ts .number ≡ n → (conditionOf n ts ≡ true) × (firstOf ts .place ≡ placeNamed n ts))
         → ((if eqb (t .number) n then t .holds else conditionOf n ts) ≡ true)
-        × ((if t .holds then t else firstOf ts) .place ≡ (if eqb (t .number) n then t .place else placeIn n ts))
+        × ((if t .holds then t else firstOf ts) .place ≡ (if eqb (t .number) n then t .place else placeNamed n ts))
     go true q rest = let same : t .number ≡ n = rw q at e in rw (q, eq-eqb (t .number) n same) (refl, refl)
     go false q rest =
         let h′ : firstOf ts .holds ≡ true = rw q at h in

@@ -1,6 +1,6 @@
 -- A list of tests, each with the number of its refusal, of which the first that holds gives the answer.
 use Prim.Native.Nat.{ℕ}
-use mathlib.Core.Bool.{Bool, true, false}
+use mathlib.Core.Bool.{Bool, false}
 use mathlib.Core.List.{List, [], _∷_}
 use lib.Dec.{eqb}
 use Rattle.lists.specs.Words.{if_then_else_}
@@ -32,6 +32,6 @@ conditionOf n [] = false
 conditionOf n (t ∷ ts) = if eqb (t .number) n then t .holds else conditionOf n ts
 
 -- the place of the test of a number; 0 where the list has no such test
-abbrev pub placeIn : ℕ → List Test → ℕ
-placeIn n [] = 0
-placeIn n (t ∷ ts) = if eqb (t .number) n then t .place else placeIn n ts
+abbrev pub placeNamed : ℕ → List Test → ℕ
+placeNamed n [] = 0
+placeNamed n (t ∷ ts) = if eqb (t .number) n then t .place else placeNamed n ts

@@ -1,22 +1,22 @@
 -- A file is accepted if and only if it meets the ten rules; and what a refusal's place is.
-use Prim.Native.Nat.{ℕ, zero, suc, _+_, _-_, _≤_, _<_}
+use Prim.Native.Nat.{ℕ, _+_, _-_, _≤_, _<_}
 use mathlib.Core.Path.{_≡_, refl, sym, ap, _∙_}
-use mathlib.Core.Bool.{Bool, true, false, not, _&&_, and-eq-true-iff}
+use mathlib.Core.Bool.{Bool, true, false}
 use mathlib.Core.Logic.{_↔_}
-use mathlib.Core.List.{List, [], _∷_}
+use mathlib.Core.List.{List}
 use native.Mathlib.Omega.{arith}
 use lib.Dec.{ltb, eqb}
 use lib.ListN.{length}
 use borrow.Author.Tests.{eqb-true, ltb-true, ltb-false, eq-eqb, le-ltb, not-true, not-false}
 use Rattle.lists.specs.Words.{firstFailing}
-use Rattle.lists.specs.Tests.{Test, firstOf, conditionOf, placeIn}
-use Rattle.lists.proofs.Cases.{by-test, not-both, passed, first-named, first-none, first-number}
+use Rattle.lists.specs.Tests.{Test, conditionOf, placeNamed}
+use Rattle.lists.proofs.Cases.{by-test, passed, first-named, first-none, first-number}
 use Rattle.lists.proofs.Loops.{failing-le, failing-fails, failing-before, failing-none, none-failing}
 use Rattle.file.specs.Blocks.{blocks, fileSize, block, intact, filed, firstDamaged, firstMisfiled}
 use Rattle.tables.specs.Bounds.{mostSegments, mostRoutes}
-use Rattle.tables.specs.Rules.{headerOk, marginOk, jointOk, orderOk, dropOk, routeOk}
+use Rattle.tables.specs.Rules.{jointOk, orderOk, dropOk, routeOk}
 use Rattle.reading.specs.Decoding.{decoded}
-use Rattle.reading.specs.Verdict.{headerFiled, recordOk, fileTests, tableTests, verdict, accepted}
+use Rattle.reading.specs.Verdict.{recordOk, fileTests, tableTests, verdict, accepted}
 use Rattle.reading.specs.Acceptance.{MeetsRules, LeastBroken, LeastBlock, Placed}
 
 -- the tests of load, in the order of their numbers
@@ -108,7 +108,7 @@ module _ (file : List ℕ) where
   none-holds e = first-none (loadTests file) (not-true _ (sym number-zero ∙ eq-eqb (verdict file .number) 0 e))
 
   -- a refusal of number n comes of the test of that number
-  named : (n : ℕ) → 1 ≤ n → verdict file .number ≡ n → (conditionOf n (loadTests file) ≡ true) × (verdict file .place ≡ placeIn n (loadTests file))
+  named : (n : ℕ) → 1 ≤ n → verdict file .number ≡ n → (conditionOf n (loadTests file) ≡ true) × (verdict file .place ≡ placeNamed n (loadTests file))
   unfolding verdict
   named n some e =
       by-test (verdict file .holds) (λ h. first-named n 0 (loadTests file) refl h e)

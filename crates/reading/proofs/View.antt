@@ -1,27 +1,24 @@
 -- The route view: its part lies in the file, it is empty exactly where it is refused, and it lists the route's segments.
-use Prim.Native.Nat.{ℕ, zero, suc, _+_, _-_, _*_, _/_, _%_, _≤_, _<_}
+use Prim.Native.Nat.{ℕ, _+_, _-_, _*_, _/_, _%_, _≤_, _<_}
 use mathlib.Core.Path.{_≡_, refl, sym, ap, _∙_}
-use mathlib.Core.Bool.{Bool, true, false, not, _&&_}
+use mathlib.Core.Bool.{true, false}
 use mathlib.Core.Logic.{_↔_, _⊎_, inl, inr}
 use mathlib.Core.List.{List, []}
 use native.Mathlib.Omega.{arith}
-use lib.Dec.{leb, eqb}
-use lib.ListN.{length, getD, take, drop, length-take, length-drop}
+use lib.ListN.{length, take, drop, length-take, length-drop}
 use lib.Seq.{getD-take, getD-drop, ext-getD}
 use borrow.Author.Tests.{leb-true, le-leb}
-use Rattle.lists.specs.Words.{if_then_else_, at, tabulate}
+use Rattle.lists.specs.Words.{at, tabulate}
 use Rattle.lists.proofs.Numbered.{nth-tabulate, nth-index, length-tabulate}
 use Rattle.lists.proofs.Cases.{by-test, not-both, is-false, and-iff, cases, lt-or-le}
 use Rattle.file.specs.Bytes.{byteAt}
 use Rattle.file.specs.Blocks.{blockSize, fileSize, block}
-use Rattle.tables.specs.declared.Tables.{Tables}
 use Rattle.tables.specs.Bounds.{mostRoutes, longestRoute}
 use Rattle.tables.specs.Tables.{countOf, segmentAt}
-use Rattle.tables.specs.Rules.{headerOk}
 use Rattle.tables.specs.Facts.{Meets, Consistent}
 use Rattle.tables.proofs.Consistency.{consistent}
 use Rattle.reading.specs.Decoding.{wayIn, decoded}
-use Rattle.reading.specs.Verdict.{headerFiled, recordOk, reserved, accepted}
+use Rattle.reading.specs.Verdict.{recordOk, accepted}
 use Rattle.reading.specs.View.{routeStart, shown, viewStart, viewCount, viewed}
 use Rattle.reading.specs.Acceptance.{MeetsRules}
 use Rattle.reading.proofs.Accepted.{accepted-iff}

@@ -1,11 +1,11 @@
 // From a file to its verdict and its tables, and the route view. The file is lent and only read.
 ghost use mathlib.Core.Path.{_≡_};
-ghost use Prim.Native.Nat.{_<_, _≤_, _+_};
+ghost use Prim.Native.Nat.{_<_, _+_};
 ghost use lib.ListN.{length};
 ghost use Rattle.lists.specs.Words.{tabulate, firstFailing};
 ghost use Rattle.lists.specs.Tests.{firstOf};
 ghost use Rattle.file.specs.Bytes.{PartAt};
-ghost use Rattle.file.specs.Blocks.{fileSize, block};
+ghost use Rattle.file.specs.Blocks.{fileSize};
 ghost use Rattle.tables.specs.Bounds.{mostSegments};
 ghost use Rattle.reading.specs.Decoding.{segmentBlock, segmentStart, lengthIn, limitIn, linkIn, flagsIn, wayIn, decoded};
 ghost use Rattle.reading.specs.Verdict.{headerFiled, reserved, recordOk, tableTests, readingBy, readingOf, refusedReading};

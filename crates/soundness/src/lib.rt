@@ -1,6 +1,6 @@
 // The conditions of a sound record on trains and allocations. Of a record handed in nothing is known but what is tested first.
 ghost use mathlib.Core.Path.{_≡_};
-ghost use mathlib.Core.Bool.{Bool, true, _&&_, _||_};
+ghost use mathlib.Core.Bool.{true, _&&_, _||_};
 ghost use Prim.Native.Nat.{_≤_};
 ghost use lib.Dec.{leb, eqb};
 ghost use Rattle.lists.specs.Words.{if_then_else_, at, every};

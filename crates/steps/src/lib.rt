@@ -1,7 +1,6 @@
 // What becomes of the trains and of the allocations in each step. Tables come by value once per step; their arrays are lent to the
 // leaves. Position's code is not here yet.
 ghost use mathlib.Core.Path.{_≡_};
-ghost use mathlib.Core.Bool.{Bool};
 ghost use Prim.Native.Nat.{_-_, min, max};
 ghost use lib.Dec.{eqb};
 ghost use Rattle.lists.specs.Words.{if_then_else_, at, each, least};

@@ -1,20 +1,20 @@
 -- Tables that meet rules 4 to 10 are consistent.
-use Prim.Native.Nat.{ℕ, zero, suc, _+_, _-_, _≤_, _<_}
-use mathlib.Core.Path.{_≡_, refl, sym, ap, _∙_}
-use mathlib.Core.Bool.{Bool, true, false, not, _&&_, _||_, and-eq-true-iff}
+use Prim.Native.Nat.{ℕ, _+_, _-_, _≤_, _<_}
+use mathlib.Core.Path.{_≡_, refl}
+use mathlib.Core.Bool.{Bool, true, false, _||_, and-eq-true-iff}
 use mathlib.Core.Logic.{_⊎_, inl, inr, _↔_}
 use mathlib.Core.List.{List}
 use native.Mathlib.Omega.{arith}
 use lib.Dec.{leb, ltb, eqb}
 use borrow.Author.Tests.{leb-true, ltb-true, eqb-true, le-leb}
-use Rattle.lists.specs.Words.{if_then_else_, at, every}
+use Rattle.lists.specs.Words.{at, every}
 use Rattle.lists.proofs.Cases.{cases, and-iff, facts}
 use Rattle.lists.proofs.Loops.{every-at, every-all}
 use Rattle.tables.specs.declared.Tables.{Tables}
 use Rattle.tables.specs.Bounds.{mostSegments, mostRoutes, longestRoute, fastest, longest}
-use Rattle.tables.specs.Tables.{firstLink, secondLink, linksTo, segmentOf, countOf, segmentAt, brakingDistance}
-use Rattle.tables.specs.Rules.{headerIn, linksOk, usedOk, unusedOk, rowOk, segmentOk, matched, jointIn, greater, orderIn, gentle, dropIn, stepIn, countIn, routeIn, jointOk, orderOk, dropOk, routeOk, meets}
-use Rattle.tables.specs.Facts.{Meets, IsSegment, Follows, Consistent}
+use Rattle.tables.specs.Tables.{firstLink, secondLink, linksTo, segmentOf, countOf, segmentAt}
+use Rattle.tables.specs.Rules.{headerIn, linksOk, usedOk, rowOk, segmentOk, matched, jointIn, orderIn, gentle, dropIn, stepIn, countIn, routeIn, jointOk, orderOk, dropOk, routeOk, meets}
+use Rattle.tables.specs.Facts.{Meets, IsSegment, Consistent}
 
 -- one of two tests holds
 either : (a b : Bool) → (a || b) ≡ true → (a ≡ true) ⊎ (b ≡ true)

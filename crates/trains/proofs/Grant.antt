@@ -1,6 +1,6 @@
 -- What a grant does, in the paper's words: an allocated segment keeps its holder; a free segment goes to a train that asked for it,
 -- and no smaller number did; nobody asks afterwards.
-use Prim.Native.Nat.{ℕ, _≤_, _<_}
+use Prim.Native.Nat.{ℕ, _≤_}
 use mathlib.Core.Path.{_≡_, refl, sym, _∙_}
 use mathlib.Core.Bool.{Bool, true, false}
 use mathlib.Core.List.{List}

@@ -1,23 +1,22 @@
 -- The safety laws of one train on the area: what holds of it, and that each call keeps it. No lists of trains or allocations:
 -- `held` says who holds a segment, `way` is the way since its enter, `got` what grant steps since then allocated to it.
 use Prim.Native.Nat.{ℕ, zero, suc, _+_, _-_, _≤_, _<_, min, max}
-use mathlib.Core.Path.{_≡_, refl, sym, ap, _∙_}
-use mathlib.Core.Logic.{_⊎_, inl, inr, ⊎-elim}
+use mathlib.Core.Path.{_≡_, refl, sym, _∙_}
+use mathlib.Core.Logic.{_⊎_, inl, inr}
 use mathlib.Core.Bool.{Bool, true, false, not, _&&_, and-false, and-eq-true-iff}
 use native.Mathlib.Omega.{arith}
-use native.Mathlib.Numerals.{add-one}
-use lib.Dec.{leb, ltb, eqb}
-use borrow.Author.Tests.{ltb-true, ltb-false, leb-true, leb-false, eqb-true, eqb-false, lt-ltb, le-ltb, eq-eqb, ne-eqb, lt-leb}
+use lib.Dec.{ltb, eqb}
+use borrow.Author.Tests.{ltb-true, leb-false, eqb-true, lt-ltb, le-ltb, eq-eqb, ne-eqb, lt-leb}
 use Rattle.lists.specs.Words.{if_then_else_, at}
-use Rattle.lists.proofs.Cases.{if-case, by-test, cases, lt-or-le, eq-or-ne, not-both}
+use Rattle.lists.proofs.Cases.{if-case, by-test, cases, lt-or-le, not-both}
 use Rattle.braking.specs.Braking.{S, B}
 use Rattle.braking.proofs.Laws.{S-mono, S-B, B-step, S-above}
 use Rattle.tables.specs.declared.Tables.{Tables}
 use Rattle.tables.specs.Tables.{countOf, segmentAt}
 use Rattle.tables.specs.Facts.{IsSegment, Follows, Consistent}
 use Rattle.trains.specs.declared.Train.{Train}
-use Rattle.trains.specs.Train.{entered, withSpeed, withAsking, movedTo, isOn, ownIn, ownOf, nextIn, nextOf, ownLength, ownLimit, nextLimit, nearIn, near}
-use Rattle.trains.specs.Steps.{speedIn, wantsIn, movesOn, moved}
+use Rattle.trains.specs.Train.{entered, withSpeed, withAsking, movedTo, ownIn, ownOf, nextIn, nextOf, ownLength, ownLimit, nextLimit, nearIn, near}
+use Rattle.trains.specs.Steps.{speedIn, wantsIn}
 use Rattle.trains.specs.Sound.{runIn, toRun}
 use Rattle.trains.specs.Way.{startAfter}
 

@@ -1,20 +1,20 @@
 -- The tests of a sound record's trains and allocations decide the facts that they stand for.
-use Prim.Native.Nat.{ℕ, zero, suc, _+_, _≤_, _<_}
-use mathlib.Core.Path.{_≡_, refl, sym, ap, _∙_}
-use mathlib.Core.Logic.{_⊎_, inl, inr, _↔_}
-use mathlib.Core.Bool.{Bool, true, false, not, _&&_, _||_}
+use Prim.Native.Nat.{ℕ, _+_, _≤_, _<_}
+use mathlib.Core.Path.{_≡_, refl, sym}
+use mathlib.Core.Logic.{inl, inr, _↔_}
+use mathlib.Core.Bool.{Bool, true, false, _&&_, _||_}
 use mathlib.Core.List.{List}
 use native.Mathlib.Omega.{arith}
 use lib.Dec.{leb, ltb, eqb}
-use borrow.Author.Tests.{leb-true, ltb-true, ltb-false, eqb-true, eqb-false, le-leb, lt-ltb, le-ltb, eq-eqb, ne-eqb, not-true}
-use Rattle.lists.specs.Words.{if_then_else_, at}
-use Rattle.lists.proofs.Cases.{by-test, cases, lt-or-le, eq-or-ne, not-both, and-iff, facts, either, either-yes}
+use borrow.Author.Tests.{leb-true, ltb-true, eqb-true, le-leb, lt-ltb, eq-eqb, ne-eqb, not-true}
+use Rattle.lists.specs.Words.{at}
+use Rattle.lists.proofs.Cases.{cases, lt-or-le, eq-or-ne, not-both, and-iff, facts, either, either-yes}
 use Rattle.tables.specs.declared.Tables.{Tables}
 use Rattle.tables.specs.Tables.{countOf}
 use Rattle.trains.specs.declared.Train.{Train}
 use Rattle.trains.specs.Train.{off, trainAt, isOn, ownOf, nextOf, ownLength, ownLimit, nextLimit, holdsNext, occupied, ahead}
 use Rattle.trains.specs.Steps.{wants}
-use Rattle.trains.specs.Sound.{offSound, placeIn, placeSound, runIn, toRun, brakingIn, brakingSound, askingIn, askingSound, trainSound, allocationSound}
+use Rattle.trains.specs.Sound.{offSound, placeIn, placeSound, runIn, brakingIn, brakingSound, askingIn, askingSound, trainSound, allocationSound}
 use Rattle.trains.specs.SoundFacts.{SoundTrain, SoundAllocation}
 
 asking-same : (due : ℕ) (w q : Bool) → (askingIn due w q ≡ true) ↔ (q ≡ (eqb due 2 && w))

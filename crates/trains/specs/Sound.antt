@@ -1,6 +1,6 @@
 -- The conditions of "A sound record" (document 01) on one train and on one allocation.
 -- T are the tables of the area, A its allocations, due the step due, t the number of a train, x the train, s a segment, h who holds it.
-use Prim.Native.Nat.{ℕ, _+_, _-_}
+use Prim.Native.Nat.{ℕ, _+_}
 use mathlib.Core.Bool.{Bool, not, _&&_, _||_}
 use mathlib.Core.List.{List}
 use lib.Dec.{leb, ltb, eqb}

@@ -3,14 +3,14 @@
 use Prim.Native.Nat.{ℕ, _+_, _≤_, _<_}
 use mathlib.Core.Path.{_≡_}
 use mathlib.Core.Logic.{_⊎_}
-use mathlib.Core.Bool.{Bool, true, false, _&&_}
+use mathlib.Core.Bool.{true, false, _&&_}
 use mathlib.Core.List.{List}
 use lib.Dec.{eqb}
 use Rattle.lists.specs.Words.{at}
 use Rattle.tables.specs.declared.Tables.{Tables}
 use Rattle.tables.specs.Tables.{countOf}
 use Rattle.trains.specs.declared.Train.{Train}
-use Rattle.trains.specs.Train.{off, trainAt, ownOf, nextOf, ownLength, ownLimit, nextLimit, holdsNext}
+use Rattle.trains.specs.Train.{trainAt, ownOf, nextOf, ownLength, ownLimit, nextLimit, holdsNext}
 use Rattle.trains.specs.Steps.{wants}
 use Rattle.trains.specs.Sound.{toRun}
 

@@ -8,7 +8,7 @@ use Rattle.lists.specs.Words.{if_then_else_, at, least}
 use Rattle.tables.specs.declared.Tables.{Tables}
 use Rattle.tables.specs.Tables.{countOf, segmentAt}
 use Rattle.trains.specs.declared.Train.{Train}
-use Rattle.trains.specs.Train.{mostTrains, withSpeed, withAsking, movedTo, trainAt, isOn, ownOf, ownLength, ownLimit, nextLimit, near, holdsNext, occupied, wanted}
+use Rattle.trains.specs.Train.{mostTrains, withSpeed, withAsking, movedTo, trainAt, isOn, ownLength, ownLimit, nextLimit, near, holdsNext, occupied, wanted}
 
 -- *Speed*. Low = max(0, speed - `b`). Not near: up to the segment's limit. Near with next allocated to it: up to the smaller of both
 -- limits. Wishes outside go to the closer end. Near without it: exactly low
@@ -95,5 +95,5 @@ isLast T x = eqb (x .place) (countOf (T .ways) (x .route))
 abbrev pub low : Tables → Train → ℕ
 low T x = x .speed - T .braking
 
-abbrev pub highest : Tables → List ℕ → ℕ → Train → ℕ
-highest T A t x = if near T x && holdsNext T A t x then min (ownLimit T x) (nextLimit T x) else ownLimit T x
+abbrev pub upperEnd : Tables → List ℕ → ℕ → Train → ℕ
+upperEnd T A t x = if near T x && holdsNext T A t x then min (ownLimit T x) (nextLimit T x) else ownLimit T x

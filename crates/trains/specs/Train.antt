@@ -1,7 +1,7 @@
 -- A train of an area: the five ways in which one is written, and what is said of one (document 01, "The calls").
 -- T are the tables of the area, A its allocations, t the number of the train, x the train.
 use Prim.Native.Nat.{ℕ, _+_, _-_}
-use mathlib.Core.Bool.{Bool, true, false, _&&_}
+use mathlib.Core.Bool.{Bool, false, _&&_}
 use mathlib.Core.List.{List}
 use lib.Dec.{leb, ltb, eqb}
 use Rattle.lists.specs.Words.{if_then_else_, nth, at}

@@ -1,5 +1,5 @@
 -- After each turn the sum so far and S of the kept speed together make S of the speed.
-use Prim.Native.Nat.{ℕ, _≤_, _+_, _-_}
+use Prim.Native.Nat.{_≤_, _+_, _-_}
 use mathlib.Core.Path.{_≡_}
 use native.Mathlib.Omega.{arith}
 use Rattle.braking.specs.Braking.{S}

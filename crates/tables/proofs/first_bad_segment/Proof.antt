@@ -1,10 +1,6 @@
-use Prim.Native.Nat.{ℕ, _+_, _-_}
-use mathlib.Core.Path.{_≡_}
-use mathlib.Core.Bool.{Bool}
-use mathlib.Core.List.{List}
+use Prim.Native.Nat.{ℕ, _-_}
 use native.Mathlib.Omega.{arith}
 use borrow.Author.Needs.{needs}
-use denote.Ref.{now}
 use Rattle.lists.proofs.Loops.{Scanned, scan-begin, scan-over, scan-more, scan-found}
 use Rattle.tables.specs.Bounds.{mostSegments}
 use Rattle.tables.specs.Tables.{rowOf}
