@@ -5,7 +5,8 @@ use mathlib.Core.Bool.{true, false}
 use mathlib.Core.Logic.{_↔_}
 use mathlib.Core.List.{List}
 use borrow.Author.Tests.{eqb-true, eq-eqb, not-true, not-false}
-use Rattle.lists.proofs.Cases.{by-test, first-none}
+use Rattle.lists.proofs.Cases.{by-test}
+use Rattle.lists.proofs.Refusals.{first-none}
 use Rattle.lists.proofs.Numbered.{nth-replicate}
 use Rattle.tables.specs.Tables.{blankTables}
 use Rattle.reading.specs.Decoding.{decoded}

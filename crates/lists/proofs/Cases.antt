@@ -1,14 +1,12 @@
--- Laws of tests: a split that keeps the test's equation, a conjunction's parts, and a list of tests none of which holds.
+-- Laws of tests: a split that keeps the test's equation, and the parts of a conjunction and of a disjunction.
 use Prim.Native.Nat.{ℕ, _≤_, _<_}
 use mathlib.Core.Path.{_≡_, refl, sym, _∙_}
 use mathlib.Core.Logic.{_⊎_, inl, inr, _↔_}
 use mathlib.Core.Bool.{Bool, true, false, not, _&&_, _||_, and-eq-true-iff}
-use mathlib.Core.List.{List, [], _∷_}
 use native.Mathlib.Omega.{arith}
 use lib.Dec.{leb, ltb, eqb}
-use borrow.Author.Tests.{ltb-true, ltb-false, leb-true, leb-false, eqb-true, eqb-false, le-leb, lt-leb, eq-eqb, ne-eqb, not-true, not-false}
+use borrow.Author.Tests.{ltb-true, ltb-false, leb-true, leb-false, eqb-true, eqb-false, le-leb, lt-leb, eq-eqb, not-true, not-false}
 use Rattle.lists.specs.Words.{if_then_else_}
-use Rattle.lists.specs.Tests.{Test, firstOf, conditionOf, placeNamed}
 
 -- a fact of a choice, from the two cases with the test's equation
 pub if-case : {A : Type 0} {a b : A} (P : A → Type 0) (t : Bool) → (t ≡ true → P a) → (t ≡ false → P b) → P (if t then a else b)
@@ -66,73 +64,6 @@ pub leb-false-iff : (a b : ℕ) → (leb a b ≡ false) ↔ (b < a)
 leb-false-iff a b = (leb-false a b, lt-leb a b)
 
 pub ruleset facts = (and-iff, leb-iff, eqb-iff, not-iff, leb-false-iff)
-
--- where no test of a list holds, the test of a given number does not: asked for by its number, never by its place in the list
-pub passed : (n : ℕ) (ts : List Test) → firstOf ts .holds ≡ false → conditionOf n ts ≡ false
-passed n [] e = refl
-passed n (t ∷ ts) e = go (t .holds) refl (passed n ts)
-  where
-    go : (h : Bool) → t .holds ≡ h → (firstOf ts .holds ≡ false → conditionOf n ts ≡ false) → (if eqb (t .number) n then t .holds else conditionOf n ts) ≡ false
-    go true q rest = let z : true ≡ false = rw q at e in not-both true refl z
-    go false q rest = if-case (λ (x : Bool). x ≡ false) (eqb (t .number) n) (λ b. q) (λ b. rest (rw q at e))
-
--- where a list's numbers rise from above k, they tell its tests apart
-abbrev pub rising : ℕ → List Test → Bool
-rising k [] = true
-rising k (t ∷ ts) = ltb k (t .number) && rising (t .number) ts
-
-first-above : (k : ℕ) (ts : List Test) → rising k ts ≡ true → firstOf ts .holds ≡ true → k < firstOf ts .number
-first-above k [] up h = not-both true refl (sym h)
-first-above k (t ∷ ts) up h = go (t .holds) refl (first-above (t .number) ts)
-  where
-    both : (ltb k (t .number) ≡ true) × (rising (t .number) ts ≡ true)
-    both = and-eq-true-iff (ltb k (t .number)) (rising (t .number) ts) .0 up
-
-    go :
-        (b : Bool) → t .holds ≡ b → (rising (t .number) ts ≡ true → firstOf ts .holds ≡ true → t .number < firstOf ts .number)
-        → k < (if t .holds then t else firstOf ts) .number
-    go true q rest = rw q (ltb-true k (t .number) (both .0))
-    go false q rest = rw q (let r : t .number < firstOf ts .number = rest (both .1) (rw q at h) in let l = ltb-true k (t .number) (both .0) in omega arith)
-
--- the first test that holds is the one of its number
-pub first-named :
-    (n k : ℕ) (ts : List Test) → rising k ts ≡ true → firstOf ts .holds ≡ true → firstOf ts .number ≡ n
-    → (conditionOf n ts ≡ true) × (firstOf ts .place ≡ placeNamed n ts)
-first-named n k [] up h e = not-both true refl (sym h)
-first-named n k (t ∷ ts) up h e = go (t .holds) refl (first-named n (t .number) ts)
-  where
-    tail : rising (t .number) ts ≡ true
-    tail = and-eq-true-iff (ltb k (t .number)) (rising (t .number) ts) .0 up .1
-
-    go :
-        (b : Bool) → t .holds ≡ b
-        → (rising (t .number) ts ≡ true → firstOf ts .holds ≡ true → firstOf ts .number ≡ n → (conditionOf n ts ≡ true) × (firstOf ts .place ≡ placeNamed n ts))
-        → ((if eqb (t .number) n then t .holds else conditionOf n ts) ≡ true)
-        × ((if t .holds then t else firstOf ts) .place ≡ (if eqb (t .number) n then t .place else placeNamed n ts))
-    go true q rest = let same : t .number ≡ n = rw q at e in rw (q, eq-eqb (t .number) n same) (refl, refl)
-    go false q rest =
-        let h′ : firstOf ts .holds ≡ true = rw q at h in
-        let e′ : firstOf ts .number ≡ n = rw q at e in
-        let up′ = first-above (t .number) ts tail h′ in
-        rw (q, ne-eqb (t .number) n (λ z. omega arith)) (rest tail h′ e′)
-
--- where none holds, number and place are 0
-pub first-none : (ts : List Test) → firstOf ts .holds ≡ false → firstOf ts ≡ record { holds = false; number = 0; place = 0 }
-first-none [] e = refl
-first-none (t ∷ ts) e = go (t .holds) refl (first-none ts)
-  where
-    go :
-        (b : Bool) → t .holds ≡ b → (firstOf ts .holds ≡ false → firstOf ts ≡ record { holds = false; number = 0; place = 0 })
-        → (if t .holds then t else firstOf ts) ≡ record { holds = false; number = 0; place = 0 }
-    go true q rest = let z : true ≡ false = rw q at e in not-both true refl z
-    go false q rest = rw q (rest (rw q at e))
-
--- so a test holds exactly where the number is not 0
-pub first-number : (ts : List Test) → rising 0 ts ≡ true → eqb (firstOf ts .number) 0 ≡ not (firstOf ts .holds)
-first-number ts up =
-    by-test (firstOf ts .holds)
-    (λ h. let l = first-above 0 ts up h in rw h (ne-eqb (firstOf ts .number) 0 (λ z. omega arith)))
-    (λ h. rw (first-none ts h))
 
 -- one of two tests holds
 pub either : (a b : Bool) → (a || b) ≡ true → (a ≡ true) ⊎ (b ≡ true)

@@ -1,3 +1,4 @@
 pub mod Numbered
-pub mod Loops
 pub mod Cases
+pub mod Loops
+pub mod Refusals

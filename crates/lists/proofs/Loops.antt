@@ -2,7 +2,8 @@
 --     a test of every number           invariant  every i p ≡ true       every-more, every-fails
 --     the least number that passes     invariant  least i p ≡ 0          least-more, least-found
 --     the first number that fails      invariant  Scanned n p i          scan-begin, scan-more, scan-found, scan-over
---     an array filled entry by entry   invariant  new ≡ filled f i l old fill-begin, fill-step, fill-over; table-step, table-over
+--     an array filled entry by entry   invariant  Made n f l old i new   make-begin, make-more, make-over
+--     an array computed by number      invariant  Tabled n f i new       table-begin, table-more, table-over
 --     a fold over the entries          foldl f b (take i l)              fold-more
 use mathlib.Core.Path.{_≡_, refl, sym, ap, _∙_}
 use mathlib.Core.List.{List, [], _∷_, foldl, foldl-append}
@@ -13,7 +14,7 @@ use native.Mathlib.Nat.{le-of-suc-le-suc, not-suc-le-zero, eq-or-lt-of-le}
 use native.Mathlib.Numerals.{add-one}
 use native.Mathlib.Omega.{arith}
 use lib.Dec.{eqb}
-use lib.ListN.{length, getD, set, take}
+use lib.ListN.{length, getD, set, take, replicate, length-replicate}
 use lib.Seq.{take-suc}
 use Rattle.lists.specs.Words.{if_then_else_, each, tabulate, every, _orElse_, least, firstFailing}
 use Rattle.lists.proofs.Numbered.{each-tabulate}
@@ -177,7 +178,7 @@ module _ {A B : Type 0} where
   filled f (suc n) (x ∷ l) [] = []
   filled f (suc n) (x ∷ l) (y ∷ old) = f 1 x ∷ filled (λ (k : ℕ). f (suc k)) n l old
 
-  pub fill-begin : (f : ℕ → A → B) (l : List A) (old : List B) → old ≡ filled f 0 l old
+  fill-begin : (f : ℕ → A → B) (l : List A) (old : List B) → old ≡ filled f 0 l old
   unfolding filled
   fill-begin f l old = refl
 
@@ -191,7 +192,7 @@ module _ {A B : Type 0} where
       ap (λ (r : List B). f 1 x ∷ r) (filled-suc (λ (k : ℕ). f (suc k)) i l old d (le-of-suc-le-suc h))
 
   -- a store at the index i of what f makes of entry i + 1
-  pub fill-step : (f : ℕ → A → B) (i : ℕ) (l : List A) (old new : List B) (d : A) (r : B) → new ≡ filled f i l old → i < length l → r ≡ f (i + 1) (getD l i d) → set new i r ≡ filled f (i + 1) l old
+  fill-step : (f : ℕ → A → B) (i : ℕ) (l : List A) (old new : List B) (d : A) (r : B) → new ≡ filled f i l old → i < length l → r ≡ f (i + 1) (getD l i d) → set new i r ≡ filled f (i + 1) l old
   fill-step f i l old new d r e h p = rw (p, e, add-one) (filled-suc f i l old d h)
 
   filled-all : (f : ℕ → A → B) (i : ℕ) (l : List A) (old : List B) → length l ≤ i → length old ≡ length l → filled f i l old ≡ each f l
@@ -205,19 +206,41 @@ module _ {A B : Type 0} where
   filled-all f (suc i) (x ∷ l) (y ∷ old) h e =
       ap (λ (r : List B). f 1 x ∷ r) (filled-all (λ (k : ℕ). f (suc k)) i l old (le-of-suc-le-suc h) (omega arith))
 
-  pub fill-over : (k : ℕ) (f : ℕ → A → B) (i : ℕ) (l : List A) (old new : List B) → new ≡ filled f i l old → length l ≡ k → length old ≡ k → k ≤ i → new ≡ each f l
+  fill-over : (k : ℕ) (f : ℕ → A → B) (i : ℕ) (l : List A) (old new : List B) → new ≡ filled f i l old → length l ≡ k → length old ≡ k → k ≤ i → new ≡ each f l
   fill-over k f i l old new e h o g = e ∙ filled-all f i l old (omega arith) (omega arith)
 
-module _ {A : Type 0} where
-  -- an array filled by a function of the number alone
-  abbrev pub tabled : (ℕ → A) → ℕ → List A → List A
-  tabled f n old = filled (λ (k : ℕ) (x : A). f k) n old old
+-- an array of n entries whose first i are made of those of l
+pub record Made {A B : Type 0} (n : ℕ) (f : ℕ → A → B) (l : List A) (old : List B) (i : ℕ) (new : List B) : Type 0 where
+  pub source : length l ≡ n
+  pub target : length old ≡ n
+  pub made : new ≡ filled f i l old
 
-  pub table-step : (f : ℕ → A) (i : ℕ) (old new : List A) (d r : A) → new ≡ tabled f i old → i < length old → r ≡ f (i + 1) → set new i r ≡ tabled f (i + 1) old
-  table-step f i old new d r e h p = fill-step (λ (k : ℕ) (x : A). f k) i old old new d r e h p
+pub make-begin : {A B : Type 0} {n : ℕ} {f : ℕ → A → B} {l : List A} {old : List B} → length l ≡ n → length old ≡ n → Made n f l old 0 old
+make-begin {f} {l} {old} h o = record { source = h; target = o; made = fill-begin f l old }
 
-  pub table-over : (k : ℕ) (f : ℕ → A) (i : ℕ) (old new : List A) → new ≡ tabled f i old → length old ≡ k → k ≤ i → new ≡ tabulate k f
-  table-over k f i old new e h g = fill-over k (λ (j : ℕ) (x : A). f j) i old old new e h h g ∙ each-tabulate f old k h
+module _ {A B : Type 0} {n i : ℕ} {f : ℕ → A → B} {l : List A} {old new : List B} (m : Made n f l old i new) where
+  pub make-more : {r : B} (d : A) → i < n → r ≡ f (i + 1) (getD l i d) → Made n f l old (i + 1) (set new i r)
+  make-more {r} d below e =
+      let h : length l ≡ n = m .source in
+      record { source = m .source; target = m .target; made = fill-step f i l old new d r (m .made) (omega arith) e }
+
+  pub make-over : n ≤ i → new ≡ each f l
+  make-over h = fill-over n f i l old new (m .made) (m .source) (m .target) h
+
+-- an array of n zeros whose first i entries are made of their numbers alone
+pub record Tabled (n : ℕ) (f : ℕ → ℕ) (i : ℕ) (new : List ℕ) : Type 0 where
+  pub most : i ≤ n
+  pub made : Made n (λ (k x : ℕ). f k) (replicate n 0) (replicate n 0) i new
+
+pub table-begin : {n : ℕ} {f : ℕ → ℕ} → Tabled n f 0 (replicate n 0)
+table-begin {n} {f} = record { most = omega arith; made = make-begin (length-replicate n 0) (length-replicate n 0) }
+
+module _ {n i : ℕ} {f : ℕ → ℕ} {new : List ℕ} (t : Tabled n f i new) where
+  pub table-more : {r : ℕ} → i < n → r ≡ f (i + 1) → Tabled n f (i + 1) (set new i r)
+  table-more {r} below e = record { most = omega arith; made = make-more (t .made) 0 below e }
+
+  pub table-over : n ≤ i → new ≡ tabulate n f
+  table-over h = make-over (t .made) h ∙ each-tabulate f (replicate n 0) n (length-replicate n 0)
 
 -- a fold over one entry more
 pub fold-more : {A B : Type 0} (f : B → A → B) (b : B) (l : List A) (i : ℕ) (d : A) → i < length l → foldl f b (take (i + 1) l) ≡ f (foldl f b (take i l)) (getD l i d)

@@ -30,11 +30,6 @@ module _ {A : Type 0} (none : A) where
   nth-out l n h = nth-in l n (omega arith) ∙ List·getD-eq-default l none (omega arith)
 
 module _ {A B : Type 0} where
-  pub length-each : (f : ℕ → A → B) (l : List A) → length (each f l) ≡ length l
-  unfolding each
-  length-each f [] = refl
-  length-each f (x ∷ l) = ap suc (length-each (λ (n : ℕ). f (suc n)) l)
-
   -- an entry of `each`, where f makes of the entry that stands for none the one that stands for none: no length is asked
   pub nth-each : (a : A) (b : B) (f : ℕ → A → B) (l : List A) (n : ℕ) → ((k : ℕ) → f k a ≡ b) → 1 ≤ n → nth b (each f l) n ≡ f n (nth a l n)
   unfolding nth each

@@ -10,7 +10,8 @@ use lib.ListN.{length}
 use borrow.Author.Tests.{eqb-true, ltb-true, ltb-false, eq-eqb, le-ltb, not-true, not-false}
 use Rattle.lists.specs.Words.{firstFailing}
 use Rattle.lists.specs.Tests.{Test, conditionOf, placeNamed}
-use Rattle.lists.proofs.Cases.{by-test, passed, first-named, first-none, first-number}
+use Rattle.lists.proofs.Cases.{by-test}
+use Rattle.lists.proofs.Refusals.{passed, first-named, first-none, first-number}
 use Rattle.lists.proofs.Loops.{failing-le, failing-fails, failing-before, failing-none, none-failing}
 use Rattle.file.specs.Blocks.{blocks, fileSize, block, intact, filed, firstDamaged, firstMisfiled}
 use Rattle.tables.specs.Bounds.{mostSegments, mostRoutes}

@@ -8,7 +8,8 @@ use borrow.Author.Needs.{needs}
 use Rattle.lists.specs.Words.{at}
 use Rattle.trains.specs.Steps.{firstSegment}
 use Rattle.area.specs.Calls.{outcome, routeTests, afterEnter}
-use Rattle.area.proofs.Laws.{Left, refuse-outside, leave-inside, refuse-other, leave-same, refuse-above, leave-within, finish, inside}
+use Rattle.lists.proofs.Refusals.{refuse-outside, leave-inside, refuse-other, leave-same, refuse-above, leave-within, inside}
+use Rattle.area.proofs.Laws.{LeftOutcome, finish}
 use Rattle.area.proofs.enter_route.Statement.{statement}
 use Rattle.area.proofs.enter_route.Tie as tie
 
@@ -19,7 +20,7 @@ After k s =
     let r = s .args .route in
     let v = s .args .speed in
     let new = afterEnter a (s .args .t) r v in
-    Left (outcome (routeTests a r v) new a) new a (drop k (routeTests a r v))
+    LeftOutcome (outcome (routeTests a r v) new a) new a (drop k (routeTests a r v))
 
 abbrev start : tie.After-segment-at → tie.Start
 start c = c .before .before .before .before .before

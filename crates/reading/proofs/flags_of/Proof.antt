@@ -2,18 +2,18 @@ use Prim.Native.Nat.{_-_}
 use native.Mathlib.Omega.{arith}
 use borrow.Author.Needs.{needs}
 use Rattle.reading.specs.Decoding.{flagsIn}
-use Rattle.reading.proofs.Laws.{Decoded, decode-begin, decode-more, decode-over}
+use Rattle.lists.proofs.Loops.{Tabled, table-begin, table-more, table-over}
 use Rattle.reading.proofs.flags_of.Statement.{statement}
 use Rattle.reading.proofs.flags_of.Tie as tie
 
 abbrev Inv-loop : tie.InvT-loop
-Inv-loop file flags₀ i₀ flags i = Decoded 62 (flagsIn file) i flags
+Inv-loop file flags₀ i₀ flags i = Tabled 62 (flagsIn file) i flags
 
 abbrev μ-loop : tie.MeasureT-loop
 μ-loop file flags₀ i₀ flags i = 62 - i
 
 loop-holds : tie.Need-loop-holds Inv-loop μ-loop
-loop-holds c = decode-begin
+loop-holds c = table-begin
 
 segment-block-requires : tie.Need-segment-block-requires Inv-loop μ-loop
 segment-block-requires c κs = search needs
@@ -42,11 +42,11 @@ loop-less c = omega arith
 loop-again : tie.Need-loop-again Inv-loop μ-loop
 unfolding flagsIn
 loop-again c =
-    decode-more (c .before .before .before .before .loop .inv) (c .before .before .before .loop-test .taken)
+    table-more (c .before .before .before .before .loop .inv) (c .before .before .before .loop-test .taken)
     (simp (c .byte .ensures, c .before .before .segment-block .ensures, c .before .segment-start .ensures))
 
 returns : tie.Need-returns Inv-loop μ-loop
-returns c = decode-over (c .before .loop .inv) (c .loop-test .left)
+returns c = table-over (c .before .loop .inv) (c .loop-test .left)
 
 pub flags-of-spec : {M : Type 1} → statement M
 flags-of-spec =

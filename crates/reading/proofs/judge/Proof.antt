@@ -10,7 +10,8 @@ use Rattle.lists.specs.Tests.{firstOf}
 use Rattle.lists.proofs.Cases.{facts, test-holds}
 use Rattle.tables.specs.Rules.{headerIn, headerOk}
 use Rattle.reading.specs.Verdict.{headerFiled, tableTests, readingBy}
-use Rattle.reading.proofs.Laws.{Left, refuse-broken, leave-met, refuse-number, leave-none}
+use Rattle.lists.proofs.Refusals.{refuse-broken, leave-met}
+use Rattle.reading.proofs.Laws.{LeftReading, refuse-number, leave-none}
 use Rattle.reading.proofs.judge.Statement.{statement}
 use Rattle.reading.proofs.judge.Tie as tie
 
@@ -19,7 +20,7 @@ abbrev After : ℕ → tie.Start → Type 0
 After k s =
     let file : List ℕ = now (s .args .file) in
     let t = s .args .t2 in
-    Left (readingBy (firstOf (tableTests file t)) t) t (drop k (tableTests file t))
+    LeftReading (readingBy (firstOf (tableTests file t)) t) t (drop k (tableTests file t))
 
 header :
     (c : tie.After-header-ok)

@@ -3,18 +3,18 @@ use mathlib.Core.Path.{_≡_}
 use native.Mathlib.Omega.{arith}
 use borrow.Author.Needs.{needs}
 use Rattle.reading.specs.Decoding.{linkIn}
-use Rattle.reading.proofs.Laws.{Decoded, decode-begin, decode-more, decode-over}
+use Rattle.lists.proofs.Loops.{Tabled, table-begin, table-more, table-over}
 use Rattle.reading.proofs.links_of.Statement.{statement}
 use Rattle.reading.proofs.links_of.Tie as tie
 
 abbrev Inv-loop : tie.InvT-loop
-Inv-loop file place links₀ i₀ links i = Decoded 124 (linkIn place file) i links
+Inv-loop file place links₀ i₀ links i = Tabled 124 (linkIn place file) i links
 
 abbrev μ-loop : tie.MeasureT-loop
 μ-loop file place links₀ i₀ links i = 124 - i
 
 loop-holds : tie.Need-loop-holds Inv-loop μ-loop
-loop-holds c = decode-begin
+loop-holds c = table-begin
 
 segment-start-requires : tie.Need-segment-start-requires Inv-loop μ-loop
 segment-start-requires c κs = search needs
@@ -49,11 +49,11 @@ loop-again c =
     let i = c .before .before .before .before .loop .i in
     let record-of : (i + 1 + 1) / 2 ≡ i / 2 + 1 = omega arith in
     let side-of : i + 1 - 1 ≡ i = omega arith in
-    decode-more (c .before .before .before .before .loop .inv) (c .before .before .before .loop-test .taken)
+    table-more (c .before .before .before .before .loop .inv) (c .before .before .before .loop-test .taken)
     (simp (record-of, side-of, c .byte .ensures, c .before .segment-block .ensures, c .before .before .segment-start .ensures))
 
 returns : tie.Need-returns Inv-loop μ-loop
-returns c = decode-over (c .before .loop .inv) (c .loop-test .left)
+returns c = table-over (c .before .loop .inv) (c .loop-test .left)
 
 pub links-of-spec : {M : Type 1} → statement M
 links-of-spec =

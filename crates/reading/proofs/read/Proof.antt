@@ -7,7 +7,8 @@ use borrow.Author.Needs.{needs}
 use denote.Ref.{now}
 use Rattle.reading.specs.Decoding.{decoded}
 use Rattle.reading.specs.Verdict.{fileTests, tableTests, verdict, readingOf}
-use Rattle.reading.proofs.Laws.{Left, refuse, leave, refuse-block, leave-none}
+use Rattle.lists.proofs.Refusals.{refuse, leave}
+use Rattle.reading.proofs.Laws.{LeftReading, refuse-block, leave-none}
 use Rattle.reading.proofs.read.Statement.{statement}
 use Rattle.reading.proofs.read.Tie as tie
 
@@ -15,7 +16,7 @@ use Rattle.reading.proofs.read.Tie as tie
 abbrev After : ℕ → tie.Start → Type 0
 After k s =
     let file : List ℕ = now (s .args .file) in
-    Left (readingOf file) (decoded file) (drop k (fileTests file (tableTests file (decoded file))))
+    LeftReading (readingOf file) (decoded file) (drop k (fileTests file (tableTests file (decoded file))))
 
 left0 : (s : tie.Start) → After 0 s
 unfolding readingOf verdict

@@ -3,18 +3,18 @@ use mathlib.Core.Path.{_≡_}
 use native.Mathlib.Omega.{arith}
 use borrow.Author.Needs.{needs}
 use Rattle.reading.specs.Decoding.{wayIn}
-use Rattle.reading.proofs.Laws.{Decoded, decode-begin, decode-more, decode-over}
+use Rattle.lists.proofs.Loops.{Tabled, table-begin, table-more, table-over}
 use Rattle.reading.proofs.ways_of.Statement.{statement}
 use Rattle.reading.proofs.ways_of.Tie as tie
 
 abbrev Inv-loop : tie.InvT-loop
-Inv-loop file ways₀ i₀ ways i = Decoded 960 (wayIn file) i ways
+Inv-loop file ways₀ i₀ ways i = Tabled 960 (wayIn file) i ways
 
 abbrev μ-loop : tie.MeasureT-loop
 μ-loop file ways₀ i₀ ways i = 960 - i
 
 loop-holds : tie.Need-loop-holds Inv-loop μ-loop
-loop-holds c = decode-begin
+loop-holds c = table-begin
 
 add-block-of : tie.Need-add-block-of Inv-loop μ-loop
 add-block-of c = omega arith
@@ -39,11 +39,11 @@ unfolding wayIn
 loop-again c =
     let i = c .before .before .before .loop .i in
     let e : i + 1 - 1 ≡ i = omega arith in
-    decode-more (c .before .before .before .loop .inv) (c .before .before .loop-test .taken)
+    table-more (c .before .before .before .loop .inv) (c .before .before .loop-test .taken)
     (simp (e, c .byte .ensures, c .before .block-of .ensures .0))
 
 returns : tie.Need-returns Inv-loop μ-loop
-returns c = decode-over (c .before .loop .inv) (c .loop-test .left)
+returns c = table-over (c .before .loop .inv) (c .loop-test .left)
 
 pub ways-of-spec : {M : Type 1} → statement M
 ways-of-spec =

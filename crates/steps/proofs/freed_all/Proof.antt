@@ -2,7 +2,7 @@ use Prim.Native.Nat.{_-_}
 use native.Mathlib.Omega.{arith}
 use borrow.Author.Needs.{needs}
 use Rattle.trains.specs.Steps.{freedBy}
-use Rattle.steps.proofs.Laws.{Made, make-begin, make-more, make-over}
+use Rattle.lists.proofs.Loops.{Made, make-begin, make-more, make-over}
 use Rattle.steps.proofs.freed_all.Statement.{statement}
 use Rattle.steps.proofs.freed_all.Tie as tie
 

@@ -4,7 +4,7 @@ use lib.Dec.{eqb}
 use borrow.Author.Needs.{needs}
 use Rattle.lists.specs.Words.{if_then_else_, at, least}
 use Rattle.trains.specs.Train.{mostTrains}
-use Rattle.steps.proofs.Laws.{Made, make-begin, make-more, make-over}
+use Rattle.lists.proofs.Loops.{Made, make-begin, make-more, make-over}
 use Rattle.steps.proofs.granted_by.Statement.{statement}
 use Rattle.steps.proofs.granted_by.Tie as tie
 

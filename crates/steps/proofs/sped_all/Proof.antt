@@ -3,7 +3,7 @@ use native.Mathlib.Omega.{arith}
 use borrow.Author.Needs.{needs}
 use Rattle.lists.proofs.Numbered.{long-of}
 use Rattle.trains.specs.Steps.{sped}
-use Rattle.steps.proofs.Laws.{Made, make-begin, make-more, make-over}
+use Rattle.lists.proofs.Loops.{Made, make-begin, make-more, make-over}
 use Rattle.steps.proofs.sped_all.Statement.{statement}
 use Rattle.steps.proofs.sped_all.Tie as tie
 

@@ -5,7 +5,8 @@ use lib.ListN.{drop}
 use borrow.Author.Needs.{needs}
 use Rattle.trains.specs.Train.{mostTrains}
 use Rattle.area.specs.Calls.{enterTests, afterEnter, enterCall}
-use Rattle.area.proofs.Laws.{Left, refuse-broken, leave-met, refuse-outside, leave-inside, refuse-above, leave-within, inside}
+use Rattle.lists.proofs.Refusals.{refuse-broken, leave-met, refuse-outside, leave-inside, refuse-above, leave-within, inside}
+use Rattle.area.proofs.Laws.{LeftOutcome}
 use Rattle.area.proofs.Area.enter.Statement.{statement}
 use Rattle.area.proofs.Area.enter.Tie as tie
 
@@ -16,7 +17,7 @@ After k s =
     let t = s .args .train in
     let r = s .args .route in
     let v = s .args .speed in
-    Left (enterCall a t r v) (afterEnter a t r v) a (drop k (enterTests a t r v))
+    LeftOutcome (enterCall a t r v) (afterEnter a t r v) a (drop k (enterTests a t r v))
 
 left0 : (s : tie.Start) → After 0 s
 unfolding enterCall

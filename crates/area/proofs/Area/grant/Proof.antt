@@ -3,13 +3,14 @@ use mathlib.Core.Path.{refl, _∙_}
 use lib.ListN.{drop}
 use borrow.Author.Needs.{needs}
 use Rattle.area.specs.Calls.{stepTests, grantDue, afterGrant, grantCall}
-use Rattle.area.proofs.Laws.{Left, refuse-broken, leave-met, refuse-other, leave-same, finish}
+use Rattle.lists.proofs.Refusals.{refuse-broken, leave-met, refuse-other, leave-same}
+use Rattle.area.proofs.Laws.{LeftOutcome, finish}
 use Rattle.area.proofs.Area.grant.Statement.{statement}
 use Rattle.area.proofs.Area.grant.Tie as tie
 
 -- what is left after the first k tests
 abbrev After : ℕ → tie.Start → Type 0
-After k s = let a = s .args .self in Left (grantCall a) (afterGrant a) a (drop k (stepTests grantDue a))
+After k s = let a = s .args .self in LeftOutcome (grantCall a) (afterGrant a) a (drop k (stepTests grantDue a))
 
 left0 : (s : tie.Start) → After 0 s
 unfolding grantCall

@@ -12,7 +12,8 @@ use Rattle.trains.specs.declared.Train.{Train}
 use Rattle.trains.specs.Train.{mostTrains, trainAt, ownOf}
 use Rattle.trains.specs.Steps.{isExit, isLast}
 use Rattle.area.specs.Calls.{leaveTests, afterLeave, leaveCall}
-use Rattle.area.proofs.Laws.{Left, refuse-broken, leave-met, refuse-outside, leave-inside, refuse-zero, leave-some, finish, inside}
+use Rattle.lists.proofs.Refusals.{refuse-broken, leave-met, refuse-outside, leave-inside, refuse-zero, leave-some, inside}
+use Rattle.area.proofs.Laws.{LeftOutcome, finish}
 use Rattle.area.proofs.Area.leave.Statement.{statement}
 use Rattle.area.proofs.Area.leave.Tie as tie
 
@@ -27,7 +28,7 @@ abbrev After : ℕ → tie.Start → Type 0
 After k s =
     let a = s .args .self in
     let t = s .args .train in
-    Left (leaveCall a t) (afterLeave a t) a (drop k (leaveTests a t))
+    LeftOutcome (leaveCall a t) (afterLeave a t) a (drop k (leaveTests a t))
 
 left0 : (s : tie.Start) → After 0 s
 unfolding leaveCall

@@ -5,7 +5,8 @@ use lib.ListN.{drop}
 use borrow.Author.Needs.{needs}
 use denote.Ref.{now}
 use Rattle.area.specs.Calls.{speedTests, afterSpeed, speedCall}
-use Rattle.area.proofs.Laws.{Left, refuse-broken, leave-met, refuse-other, leave-same, finish}
+use Rattle.lists.proofs.Refusals.{refuse-broken, leave-met, refuse-other, leave-same}
+use Rattle.area.proofs.Laws.{LeftOutcome, finish}
 use Rattle.area.proofs.Area.speed.Statement.{statement}
 use Rattle.area.proofs.Area.speed.Tie as tie
 
@@ -14,7 +15,7 @@ abbrev After : ℕ → tie.Start → Type 0
 After k s =
     let a = s .args .self in
     let wishes : List ℕ = now (s .args .wishes) in
-    Left (speedCall a wishes) (afterSpeed a wishes) a (drop k (speedTests a wishes))
+    LeftOutcome (speedCall a wishes) (afterSpeed a wishes) a (drop k (speedTests a wishes))
 
 left0 : (s : tie.Start) → After 0 s
 unfolding speedCall
