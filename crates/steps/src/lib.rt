@@ -163,10 +163,10 @@ fn served_first(asked: &[u8; 24], s: u8) -> u8
 fn granted_one(asked: &[u8; 24], s: u8, h: u8) -> u8
     ensures { λ r. ⌜ r ≡ (if eqb h 0 then least mostTrains (λ t. eqb (at (now (asked .entry)) t) s) else h) ⌝ }
 {
-    if h == 0 {
-        return served_first(asked, s);
+    if h != 0 {
+        return h;
     }
-    h
+    served_first(asked, s)
 }
 
 fn granted_by(asked: [u8; 24], allocations: [u8; 62]) -> [u8; 62]
