@@ -8,18 +8,13 @@ use native.Mathlib.Omega.{arith}
 use lib.Dec.{leb, ltb, eqb}
 use borrow.Author.Tests.{leb-true, ltb-true, eqb-true, le-leb}
 use Rattle.lists.specs.Words.{at, every}
-use Rattle.lists.proofs.Cases.{cases, and-iff, facts}
+use Rattle.lists.proofs.Cases.{cases, either, and-iff, facts}
 use Rattle.lists.proofs.Loops.{every-at, every-all}
 use Rattle.tables.specs.declared.Tables.{Tables}
 use Rattle.tables.specs.Bounds.{mostSegments, mostRoutes, longestRoute, fastest, longest}
 use Rattle.tables.specs.Tables.{firstLink, secondLink, linksTo, segmentOf, countOf, segmentAt}
 use Rattle.tables.specs.Rules.{headerIn, linksOk, usedOk, rowOk, segmentOk, matched, jointIn, orderIn, gentle, dropIn, stepIn, countIn, routeIn, jointOk, orderOk, dropOk, routeOk, meets}
 use Rattle.tables.specs.Facts.{Meets, IsSegment, Consistent}
-
--- one of two tests holds
-either : (a b : Bool) → (a || b) ≡ true → (a ≡ true) ⊎ (b ≡ true)
-either true b e = inl refl
-either false b e = inr e
 
 -- what holds of each link of a segment that is not 0 holds of every number that it links to
 module _ (links : List ℕ) (p : ℕ → Bool) (s : ℕ) (first : (eqb (firstLink links s) 0 || p (firstLink links s)) ≡ true) (second : (eqb (secondLink links s) 0 || p (secondLink links s)) ≡ true) where

@@ -56,14 +56,14 @@ off-by :
     → record { route = r; place = p; position = i; speed = v; asks = q } ≡ off
 off-by r p i v q a b c d e = rw (a, b, c, d, e)
 
-module _ (T : Tables) (A : List ℕ) (due t : ℕ) (x : Train) where
-  place-facts :
-      placeSound T A t x ≡ true
-      → (x .route ≤ T .routes) × (1 ≤ x .place) × (x .place ≤ countOf (T .ways) (x .route))
-      × (x .position < ownLength T x) × (x .speed ≤ ownLimit T x) × (at A (ownOf T x) ≡ t)
-  unfolding placeIn
-  place-facts e = let f = simp facts at e in omega arith
+-- what the test of a train's place says
+pub place-facts :
+    (R count length limit holder t : ℕ) (x : Train) → placeIn R count length limit holder t x ≡ true
+    → (x .route ≤ R) × (1 ≤ x .place) × (x .place ≤ count) × (x .position < length) × (x .speed ≤ limit) × (holder ≡ t)
+unfolding placeIn
+place-facts R count length limit holder t x e = let f = simp facts at e in omega arith
 
+module _ (T : Tables) (A : List ℕ) (due t : ℕ) (x : Train) where
   facts-place : SoundTrain T A due t x → placeSound T A t x ≡ true
   unfolding placeIn
   facts-place f =
@@ -84,7 +84,7 @@ module _ (T : Tables) (A : List ℕ) (due t : ℕ) (x : Train) where
         λ e.
             let h : (placeSound T A t x && brakingSound T A due t x && askingSound T A due t x) ≡ true = rw o at e in
             let f = simp and-iff at h in
-            let p = place-facts (f .0 .0) in
+            let p = place-facts _ _ _ _ _ _ x (f .0 .0) in
             let b = braking-same (T .braking) due (ownLength T x) (nextLimit T x) (holdsNext T A t x) x .0 (f .0 .1) in
             record {
               route = p .0;

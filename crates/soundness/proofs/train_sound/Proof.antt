@@ -7,7 +7,7 @@ use borrow.Author.Tests.{lt-ltb}
 use Rattle.lists.proofs.Cases.{test-fails, test-holds}
 use Rattle.braking.proofs.Laws.{S-mono}
 use Rattle.trains.specs.Sound.{placeIn}
-use Rattle.soundness.proofs.Laws.{place-facts}
+use Rattle.trains.proofs.Soundness.{place-facts}
 use Rattle.soundness.proofs.train_sound.Statement.{statement}
 use Rattle.soundness.proofs.train_sound.Tie as tie
 
@@ -41,7 +41,7 @@ braking-sound-requires : tie.Need-braking-sound-requires
 braking-sound-requires c κs =
     let s = start c in
     let f = place-facts _ _ _ _ _ _ (s .args .x) (placed c) in
-    (s .pre .0, le-trans (S-mono (s .args .braking) (s .pre .0) _ _ (f .3)) (s .pre .1 (omega arith) (placed c)))
+    (s .pre .0, le-trans (S-mono (s .args .braking) (s .pre .0) _ _ (f .4)) (s .pre .1 (omega arith) (placed c)))
 
 asking-sound-requires : tie.Need-asking-sound-requires
 asking-sound-requires c κs = search needs
