@@ -5,8 +5,8 @@ use mathlib.Core.Path.{_≡_, refl, sym, _∙_}
 use mathlib.Core.Logic.{_⊎_, inl, inr}
 use mathlib.Core.Bool.{Bool, true, false, not, _&&_, and-false, and-eq-true-iff}
 use native.Mathlib.Omega.{arith}
-use lib.Dec.{ltb, eqb}
-use borrow.Author.Tests.{ltb-true, leb-false, eqb-true, lt-ltb, le-ltb, eq-eqb, ne-eqb, lt-leb}
+use lib.Dec.{leb, ltb, eqb}
+use borrow.Author.Tests.{ltb-true, leb-false, eqb-true, lt-ltb, le-ltb, eq-eqb, ne-eqb, lt-leb, le-leb}
 use Rattle.lists.specs.Words.{if_then_else_, at}
 use Rattle.lists.proofs.Cases.{if-case, by-test, cases, lt-or-le, not-both}
 use Rattle.braking.specs.Braking.{S, B}
@@ -15,8 +15,8 @@ use Rattle.tables.specs.declared.Tables.{Tables}
 use Rattle.tables.specs.Tables.{countOf, segmentAt}
 use Rattle.tables.specs.Facts.{IsSegment, Follows, Consistent}
 use Rattle.trains.specs.declared.Train.{Train}
-use Rattle.trains.specs.Train.{entered, withSpeed, withAsking, movedTo, ownIn, ownOf, nextIn, nextOf, ownLength, ownLimit, nextLimit, nearIn, near}
-use Rattle.trains.specs.Steps.{speedIn, wantsIn}
+use Rattle.trains.specs.Train.{isOn, entered, withSpeed, withAsking, movedTo, ownIn, ownOf, nextIn, nextOf, ownLength, ownLimit, nextLimit, nearIn, near}
+use Rattle.trains.specs.Steps.{speedIn, wantsIn, movesIn, moved, movedIn, released}
 use Rattle.trains.specs.Sound.{runIn, toRun}
 use Rattle.trains.specs.Way.{startAfter}
 
@@ -51,7 +51,7 @@ unfolding runIn
 run-later b due v h = rw (ne-eqb due 0 (λ e. omega arith))
 
 -- the next segment starts where this one ends
-start-step : (T : Tables) (r p : ℕ) → 1 ≤ p → startAfter T r p ≡ startAfter T r (p - 1) + at (T .lengths) (segmentAt (T .ways) r p)
+pub start-step : (T : Tables) (r p : ℕ) → 1 ≤ p → startAfter T r p ≡ startAfter T r (p - 1) + at (T .lengths) (segmentAt (T .ways) r p)
 unfolding startAfter
 start-step T r zero h = absurd (omega arith)
 start-step T r (suc n) h = let e : suc n - 1 ≡ n = omega arith in rw e
@@ -98,7 +98,7 @@ module _ (T : Tables) (K : Consistent T) where
       omega (arith, S-mono (T .braking) (K .rate) v (T .gmax) (omega arith), K .stops)
 
   -- what the two parts of `holdsBy` say
-  held-next : (held : ℕ → ℕ) (t next : ℕ) → holdsBy held t next ≡ true → (1 ≤ next) × (held next ≡ t)
+  pub held-next : (held : ℕ → ℕ) (t next : ℕ) → holdsBy held t next ≡ true → (1 ≤ next) × (held next ≡ t)
   held-next held t next h =
       let f = and-eq-true-iff (ltb 0 next) (eqb (held next) t) .0 h in
       (ltb-true 0 next (f .0), eqb-true (held next) t (f .1))
@@ -302,6 +302,25 @@ module _ (T : Tables) (K : Consistent T) where
           walked = omega (arith, ok .walked, w);
           asksWell = ok .asksWell;
         }
+
+  -- what the definition of a move makes of a train: further in its segment, or on to its next
+  pub position-ok :
+      (held held′ : ℕ → ℕ) (t : ℕ) (x : Train) (way : ℕ) (got : ℕ → Bool) → TrainOk T 3 held t x way got
+      → ((s : ℕ) → held s ≡ t → released T x s ≡ false → held′ s ≡ t)
+      → ((s : ℕ) → held′ s ≡ t → (held s ≡ t) × (released T x s ≡ false))
+      → TrainOk T 0 held′ t (moved T x) (way + x .speed) got
+  unfolding movesIn movedIn released
+  position-ok held held′ t x way got ok to from =
+      let on : isOn x ≡ true = lt-ltb 0 (x .route) (ok .onRoute .routeLow) in
+      cases (lt-or-le (x .position + x .speed) (ownLength T x))
+      (λ short.
+      let stays : leb (ownLength T x) (x .position + x .speed) ≡ false = lt-leb (ownLength T x) (x .position + x .speed) short in
+      rw (on, stays) (frame (further-ok held t x way got ok short) (λ s e. to s e (rw (on, stays))) (λ s e. from s e .0) (λ s e. e)))
+      (λ past.
+      let goes : leb (ownLength T x) (x .position + x .speed) ≡ true = le-leb (ownLength T x) (x .position + x .speed) past in
+      rw (on, goes)
+      (move-ok held t x way got ok held′ past (λ s e n. to s e (rw (on, goes) (ne-eqb (ownOf T x) s (λ q. n (sym q)))))
+      (λ s e. (from s e .0, λ q. not-both (eqb (ownOf T x) s) (eq-eqb (ownOf T x) s (sym q)) (rw (on, goes) at (from s e .1))))))
 
   -- ---- enter
   pub enter-ok :

@@ -50,14 +50,20 @@ abbrev pub calmed : Train → Train
 calmed x = withAsking x false
 
 -- *Position*: position + speed. At or above the length it moves on: length subtracted, old segment freed
-unfoldable pub movesOn : Tables → Train → Bool
-movesOn T x = isOn x && leb (ownLength T x) (x .position + x .speed)
+unfoldable pub movesIn : (length : ℕ) → Train → Bool
+movesIn length x = isOn x && leb length (x .position + x .speed)
 
-unfoldable pub moved : Tables → Train → Train
-moved T x =
-    if movesOn T x
-    then movedTo x (x .place + 1) (x .position + x .speed - ownLength T x)
+abbrev pub movesOn : Tables → Train → Bool
+movesOn T x = movesIn (ownLength T x) x
+
+unfoldable pub movedIn : (length : ℕ) → Train → Train
+movedIn length x =
+    if movesIn length x
+    then movedTo x (x .place + 1) (x .position + x .speed - length)
     else movedTo x (x .place) (x .position + x .speed)
+
+abbrev pub moved : Tables → Train → Train
+moved T x = movedIn (ownLength T x) x
 
 unfoldable pub released : Tables → Train → ℕ → Bool
 released T x s = movesOn T x && occupied T x s

@@ -1,0 +1,110 @@
+-- The proof of the claim: what is kept holds before the first call and after each, and the claim's sentences follow from it.
+use Prim.Native.Nat.{ℕ}
+use mathlib.Core.Path.{_≡_, refl, sym, ap, _∙_}
+use mathlib.Core.Bool.{true, false}
+use mathlib.Core.List.{List, [], _∷_}
+use native.Mathlib.Omega.{arith}
+use borrow.Author.Tests.{eq-eqb}
+use Rattle.lists.specs.Words.{nth}
+use Rattle.lists.proofs.Cases.{not-both}
+use Rattle.lists.proofs.Numbered.{nth-replicate}
+use Rattle.tables.specs.declared.Tables.{Tables}
+use Rattle.tables.specs.Facts.{Meets}
+use Rattle.tables.proofs.Consistency.{consistent}
+use Rattle.reading.specs.Decoding.{decoded}
+use Rattle.reading.specs.Verdict.{accepted}
+use Rattle.reading.specs.Acceptance.{MeetsRules}
+use Rattle.reading.proofs.Accepted.{accepted-iff}
+use Rattle.reading.proofs.View.{tables-meet}
+use Rattle.trains.specs.Train.{off}
+use Rattle.area.specs.declared.Answer.{Answer}
+use Rattle.area.specs.declared.Answer.the-variants.{Done}
+use Rattle.area.specs.declared.Outcome.{Outcome}
+use Rattle.area.specs.Answers.{numberOf, placeOf}
+use Rattle.area.specs.Load.{fresh, loaded}
+use Rattle.area.proofs.Loading.{done-iff, done-fresh}
+use Rattle.separation.specs.Calls.{Call, called}
+use Rattle.separation.specs.Runs.{World, worldBy, next, afterFrom, noHistory, begin, after}
+use Rattle.separation.specs.Where.{OnArea}
+use Rattle.separation.specs.Claim.{Separated, Demand3}
+use Rattle.separation.proofs.Laws.{nth-more}
+use Rattle.separation.proofs.Kept.{Kept, on-same, kept-sound}
+use Rattle.separation.proofs.Going.{KeptIn, Went, went-called}
+use Rattle.separation.proofs.Fields.{is-apart, is-allocated, is-slow, is-only, is-stopping, has-own, here, is-position}
+
+-- what holds after every list of calls
+pub record Good (T : Tables) (w : World) : Type 0 where
+  pub tables : w .area .tables ≡ T
+  pub kept : KeptIn (w .area) (w .history)
+  pub neverUnsound : (k : ℕ) → numberOf (nth Done (w .answers) k) ≡ 11 → ⊥
+  pub placeless : (k : ℕ) → placeOf (nth Done (w .answers) k) ≡ 0
+
+module _ (T : Tables) (M : Meets T) where
+  good-fresh : Good T (begin (fresh T))
+  unfolding begin fresh nth
+  good-fresh =
+      record {
+        tables = refl;
+        kept =
+            record {
+              dueOk = omega arith;
+              segments = refl;
+              numbers = refl;
+              offs = λ t o. nth-replicate off 24 t;
+              routes = λ t o. not-both false o refl;
+              ons = λ t o. not-both false o refl;
+              holders = λ s some. absurd (omega (arith, nth-replicate {A = ℕ} 0 62 s));
+            };
+        neverUnsound = λ k e. omega (arith, ap numberOf (nth-replicate Done 0 k));
+        placeless = λ k. ap placeOf (nth-replicate Done 0 k);
+      }
+
+  good-by : (w : World) → Good T w → (c : Call) (o : Outcome) → Went (w .area) (w .history) c o → Good T (worldBy w c o)
+  good-by w g c o p =
+      record {
+        tables = p .tables ∙ g .tables;
+        kept = p .kept;
+        neverUnsound = nth-more Done (λ (y : Answer). numberOf y ≡ 11 → ⊥) (w .answers) (o .answer) (λ e. omega arith) (g .neverUnsound) (p .notUnsound);
+        placeless = nth-more Done (λ (y : Answer). placeOf y ≡ 0) (w .answers) (o .answer) refl (g .placeless) (p .noPlace);
+      }
+
+  good-next : (w : World) → Good T w → (c : Call) → Good T (next w c)
+  unfolding next
+  good-next w g c = good-by w g c (called (w .area) c) (went-called (w .area) (w .history) (g .kept) (rw (g .tables) M) c)
+
+  pub good-from : (w : World) → Good T w → (calls : List Call) → Good T (afterFrom w calls)
+  unfolding afterFrom
+  good-from w g [] = g
+  good-from w g (c ∷ calls) = good-from (next w c) (good-next w g c) calls
+
+  kept-by : (w : World) → Good T w → Kept T (w .area .allocations) (w .area .trains) (w .area .due) (w .history)
+  kept-by w g = rw (g .tables) at (g .kept)
+
+  pub good-separated : (w : World) → Good T w → Separated T w
+  good-separated w g =
+      let K = consistent T M in
+      let k = kept-by w g in
+      record {
+        apart = is-apart T K w k;
+        allocated = is-allocated T K w k;
+        slow = is-slow T K w k;
+        only = is-only T K w k;
+        stops = is-stopping T K w k;
+        own = has-own T K w k;
+        tables = g .tables;
+        trainsOn = on-same T (w .area .allocations) (w .area .trains) (w .area .due) (w .history) k;
+        routes = k .routes;
+        places = here T K w k;
+        positions = is-position T K w k;
+        isSound = kept-sound (w .area .tables) (w .area .allocations) (w .area .trains) (w .area .due) (w .history) (g .kept) (rw (g .tables) M);
+        neverUnsound = g .neverUnsound;
+        placeless = g .placeless;
+      }
+
+-- THE CLAIM
+pub demand3 : Demand3
+unfolding after
+demand3 file done calls =
+    let m = done-iff file .0 done in
+    let M = tables-meet file m in
+    rw (done-fresh file (accepted-iff file .1 m)) (good-separated (decoded file) M (afterFrom (begin (fresh (decoded file))) calls) (good-from (decoded file) M (begin (fresh (decoded file))) (good-fresh (decoded file) M) calls))

@@ -1,0 +1,118 @@
+-- From what is kept, each sentence of the claim.
+use Prim.Native.Nat.{ℕ, zero, suc, _+_, _-_, _≤_, _<_}
+use mathlib.Core.Path.{_≡_, refl, sym, ap, _∙_}
+use mathlib.Core.Logic.{_⊎_, inl, inr}
+use mathlib.Core.Bool.{Bool, true, false}
+use mathlib.Core.List.{List}
+use native.Mathlib.Omega.{arith}
+use lib.Dec.{eqb}
+use borrow.Author.Tests.{eq-eqb}
+use Rattle.lists.specs.Words.{if_then_else_, at}
+use Rattle.lists.proofs.Cases.{if-case, by-test, cases}
+use Rattle.braking.proofs.Laws.{S-B}
+use Rattle.tables.specs.declared.Tables.{Tables}
+use Rattle.tables.specs.Tables.{countOf, segmentAt}
+use Rattle.tables.specs.Facts.{Consistent}
+use Rattle.trains.specs.declared.Train.{Train}
+use Rattle.trains.specs.Train.{trainAt, ownIn, ownOf, nextOf}
+use Rattle.trains.specs.Sound.{runIn, toRun}
+use Rattle.trains.specs.Way.{startAfter}
+use Rattle.trains.proofs.Safety.{TrainOk, holdsBy, own-is, next-is, in-margin, start-step, held-next}
+use Rattle.separation.specs.Runs.{World}
+use Rattle.separation.specs.Where.{OnArea, routeOf, segmentOn, OwnPlace, HasOwn, OnSegment, GrantedNext, positionOf, speedOf, stillToRun, heldFrom, reach}
+use Rattle.separation.proofs.Places.{one-place}
+use Rattle.separation.proofs.Kept.{Kept}
+
+module _ (T : Tables) (K : Consistent T) (w : World) (k : Kept T (w .area .allocations) (w .area .trains) (w .area .due) (w .history)) where
+  abbrev x : ℕ → Train
+  x t = trainAt (w .area .trains) t
+
+  abbrev ok : (t : ℕ) → OnArea T w t → TrainOk T (w .area .due) (at (w .area .allocations)) t (x t) (w .history .way t) (w .history .granted t)
+  ok t o = k .ons t o
+
+  -- the way, by the route of the list
+  walked : (t : ℕ) → OnArea T w t → w .history .way t ≡ startAfter T (routeOf T w t) (x t .place - 1) + x t .position
+  walked t o = rw (sym (k .routes t o)) (ok t o .walked)
+
+  own-segment : (t : ℕ) → OnArea T w t → ownOf T (x t) ≡ segmentOn T w t (x t .place)
+  unfolding ownIn
+  own-segment t o = rw (k .routes t o)
+
+  -- the record's place is an own place
+  own-here : (t : ℕ) → OnArea T w t → OwnPlace T w t (x t .place)
+  own-here t o =
+      let i = ok t o .inside in
+      let s = start-step T (routeOf T w t) (x t .place) (ok t o .onRoute .placeLow) in
+      record {
+        on = o;
+        place = (ok t o .onRoute .placeLow, rw (sym (k .routes t o)) (ok t o .onRoute .placeHigh));
+        starts = omega (arith, walked t o);
+        ends = omega (arith, walked t o, s, rw (own-segment t o) at i);
+      }
+
+  -- and the only one
+  pub here : (t p : ℕ) → OwnPlace T w t p → x t .place ≡ p
+  here t p o =
+      let q = own-here t (o .on) in
+      one-place T (routeOf T w t) (w .history .way t) (x t .place) p (q .place .0) (o .place .0) (q .starts) (q .ends) (o .starts) (o .ends)
+
+  -- the segment that a train is on is the record's own, so that segment's conditions are those of the record
+  on-own : (t s : ℕ) → OnSegment T w t s → ownOf T (x t) ≡ s
+  on-own t s o = own-segment t (o .own .on) ∙ (ap (segmentOn T w t) (here t (o .place) (o .own)) ∙ o .segment)
+
+  pub is-apart : (t u s : ℕ) → OnSegment T w t s → OnSegment T w u s → t ≡ u
+  is-apart t u s a b =
+      sym (rw (on-own t s a) at (ok t (a .own .on) .holds)) ∙ rw (on-own u s b) at (ok u (b .own .on) .holds)
+
+  pub is-allocated : (t s : ℕ) → OnSegment T w t s → at (w .area .allocations) s ≡ t
+  is-allocated t s o = rw (on-own t s o) at (ok t (o .own .on) .holds)
+
+  pub is-slow : (t s : ℕ) → OnSegment T w t s → speedOf T w t ≤ at (T .limits) s
+  is-slow t s o = rw (on-own t s o) at (ok t (o .own .on) .slow)
+
+  pub is-only : (t s : ℕ) → 1 ≤ t → at (w .area .allocations) s ≡ t → OnSegment T w t s ⊎ GrantedNext T w t s
+  is-only t s some e =
+      let o : OnArea T w t = rw e at (k .holders s (omega arith)) in
+      cases (ok t o .only s e)
+      (λ q. inl (record { place = x t .place; own = own-here t o; segment = sym (own-segment t o) ∙ sym q }))
+      (λ q.
+      let n = next-is T K (x t) (ok t o .onRoute) (q .0) in
+      let later : x t .place < countOf (T .ways) (routeOf T w t) = rw (sym (k .routes t o)) (n .later) in
+      let same : segmentOn T w t (x t .place + 1) ≡ s = rw (sym (k .routes t o)) (sym (n .same)) ∙ sym (q .1) in
+      inr (record { place = x t .place; own = own-here t o; later = later; next = same; granted = q .2 }))
+
+  -- where its next is allocated to a train, its reach goes as far as that at least
+  next-reached :
+      (t : ℕ) → OnArea T w t → 1 ≤ nextOf T (x t) → at (w .area .allocations) (nextOf T (x t)) ≡ t
+      → at (T .lengths) (ownOf T (x t)) + at (T .lengths) (nextOf T (x t)) ≤ reach T w t (x t .place)
+  unfolding heldFrom
+  next-reached t o some e =
+      let n = next-is T K (x t) (ok t o .onRoute) some in
+      let later : x t .place < countOf (T .ways) (routeOf T w t) = rw (sym (k .routes t o)) (n .later) in
+      let same : segmentOn T w t (x t .place + 1) ≡ nextOf T (x t) = rw (sym (k .routes t o)) (sym (n .same)) in
+      let m : countOf (T .ways) (routeOf T w t) - x t .place ≡ suc (countOf (T .ways) (routeOf T w t) - x t .place - 1) = omega arith in
+      rw (m, same, eq-eqb (at (w .area .allocations) (nextOf T (x t))) t e, own-segment t o) (omega arith)
+
+  run-margin : (t : ℕ) → OnArea T w t → toRun T (w .area .due) (x t .speed) ≤ T .margin
+  unfolding runIn
+  run-margin t o =
+      let m = in-margin T K (x t) (ok t o .onRoute) (x t .speed) (ok t o .slow) in
+      if-case (λ (v : ℕ). v ≤ T .margin) (eqb (w .area .due) 0) (λ e. omega (arith, S-B (T .braking) (K .rate) (x t .speed))) (λ e. m)
+
+  stops-here : (t : ℕ) → OnArea T w t → x t .position + stillToRun T w t < reach T w t (x t .place)
+  stops-here t o =
+      by-test (holdsBy (at (w .area .allocations)) t (nextOf T (x t)))
+      (λ h.
+      let p = held-next T K (at (w .area .allocations)) t (nextOf T (x t)) h in
+      let n = next-is T K (x t) (ok t o .onRoute) (p .0) in
+      omega (arith, ok t o .inside, run-margin t o, K .long (nextOf T (x t)) (n .segment), next-reached t o (p .0) (p .1)))
+      (λ h. omega (arith, ok t o .stops h, ap (at (T .lengths)) (own-segment t o)))
+
+  pub is-position : (t p : ℕ) → OwnPlace T w t p → x t .position ≡ positionOf T w t p
+  is-position t p o = rw (sym (here t p o)) (omega (arith, walked t (o .on)))
+
+  pub is-stopping : (t p : ℕ) → OwnPlace T w t p → positionOf T w t p + stillToRun T w t < reach T w t p
+  is-stopping t p o = rw (sym (is-position t p o), sym (here t p o)) (stops-here t (o .on))
+
+  pub has-own : (t : ℕ) → OnArea T w t → HasOwn T w t
+  has-own t o = record { place = x t .place; own = own-here t o; only = λ p q. sym (here t p q) }

@@ -1,0 +1,91 @@
+-- What holds of an area record and of what the list tells, after every call: the induction's tool.
+use Prim.Native.Nat.{ℕ, _+_, _≤_, _<_}
+use mathlib.Core.Path.{_≡_, refl, sym, ap, _∙_}
+use mathlib.Core.Logic.{inl, inr}
+use mathlib.Core.Bool.{true, false}
+use mathlib.Core.List.{List}
+use native.Mathlib.Omega.{arith}
+use lib.ListN.{length}
+use borrow.Author.Tests.{lt-ltb}
+use Rattle.lists.specs.Words.{at}
+use Rattle.lists.proofs.Cases.{by-test, cases, lt-or-le, eq-or-ne}
+use Rattle.tables.specs.declared.Tables.{Tables}
+use Rattle.tables.specs.Facts.{Meets, Consistent}
+use Rattle.tables.proofs.Consistency.{consistent}
+use Rattle.trains.specs.declared.Train.{Train}
+use Rattle.trains.specs.Train.{off, trainAt, isOn, holdsIn}
+use Rattle.trains.specs.SoundFacts.{SoundTrain, SoundAllocation}
+use Rattle.trains.proofs.Safety.{TrainOk, own-is, next-is}
+use Rattle.area.specs.declared.Area.{Area}
+use Rattle.area.specs.Sound.{sound}
+use Rattle.area.specs.SoundFacts.{SoundArea}
+use Rattle.area.proofs.Soundness.{sound-iff}
+use Rattle.separation.specs.Runs.{History}
+
+-- T are the tables, A the allocations, X the trains
+pub record Kept (T : Tables) (A : List ℕ) (X : List Train) (due : ℕ) (h : History) : Type 0 where
+  pub dueOk : due ≤ 3
+  pub segments : length A ≡ 62
+  pub numbers : length X ≡ 24
+  pub offs : (t : ℕ) → h .on t ≡ false → trainAt X t ≡ off
+  pub routes : (t : ℕ) → h .on t ≡ true → trainAt X t .route ≡ h .route t
+  pub ons : (t : ℕ) → h .on t ≡ true → TrainOk T due (at A) t (trainAt X t) (h .way t) (h .granted t)
+  pub holders : (s : ℕ) → 1 ≤ at A s → h .on (at A s) ≡ true
+
+module _ (T : Tables) (A : List ℕ) (X : List Train) (due : ℕ) (h : History) (k : Kept T A X due h) where
+  pub route-some : (t : ℕ) → h .on t ≡ true → 1 ≤ trainAt X t .route
+  route-some t o = k .ons t o .onRoute .routeLow
+
+  -- the record's trains on are those of the list
+  pub on-same : (t : ℕ) → isOn (trainAt X t) ≡ h .on t
+  on-same t =
+      by-test (h .on t) (λ o. lt-ltb 0 (trainAt X t .route) (route-some t o) ∙ sym o)
+      (λ o. ap isOn (k .offs t o) ∙ sym o)
+
+  -- it is on where its route is one, and off where it is none
+  on-by-route : (t : ℕ) → 1 ≤ trainAt X t .route → h .on t ≡ true
+  on-by-route t some = sym (on-same t) ∙ lt-ltb 0 (trainAt X t .route) some
+
+  off-by-route : (t : ℕ) → trainAt X t .route ≡ 0 → trainAt X t ≡ off
+  off-by-route t none = by-test (h .on t) (λ o. absurd (omega (arith, route-some t o))) (λ o. k .offs t o)
+
+  sound-train : (t : ℕ) → h .on t ≡ true → SoundTrain T A due t (trainAt X t)
+  unfolding holdsIn
+  sound-train t o =
+      let ok = k .ons t o in
+      record {
+        route = ok .onRoute .routeHigh;
+        place = (ok .onRoute .placeLow, ok .onRoute .placeHigh);
+        position = ok .inside;
+        speed = ok .slow;
+        own = ok .holds;
+        stops = ok .stops;
+        next = ok .nextSlow;
+        asks = ok .asksWell;
+      }
+
+  module _ (M : Meets T) where
+    sound-allocation : (s : ℕ) → 1 ≤ at A s → SoundAllocation T X s (at A s)
+    sound-allocation s some =
+        let K = consistent T M in
+        let t = at A s in
+        let x = trainAt X t in
+        let ok = k .ons t (k .holders s some) in
+        cases (ok .only s refl)
+        (λ e.
+        let g : s ≤ T .segments = rw e (own-is T K x (ok .onRoute) .to) in
+        record { segment = g; on = ok .onRoute .routeLow; whose = inl (sym e) })
+        (λ e.
+        let g : s ≤ T .segments = rw (e .1) (next-is T K x (ok .onRoute) (e .0) .segment .to) in
+        record { segment = g; on = ok .onRoute .routeLow; whose = inr (sym (e .1)) })
+
+    pub kept-sound : sound (record { tables = T; allocations = A; trains = X; due = due }) ≡ true
+    kept-sound =
+        sound-iff (record { tables = T; allocations = A; trains = X; due = due }) .1
+        (record {
+          tables = M;
+          due = k .dueOk;
+          offs = λ t low high z. off-by-route t z;
+          ons = λ t low high o. sound-train t (on-by-route t o);
+          allocations = λ s low high. cases (eq-or-ne (at A s) 0) (λ z. inl z) (λ n. inr (sound-allocation s (omega arith)));
+        })

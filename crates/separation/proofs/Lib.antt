@@ -1,0 +1,7 @@
+pub mod Laws
+pub mod Kept
+pub mod Keeping
+pub mod Going
+pub mod Places
+pub mod Fields
+pub mod Demand3

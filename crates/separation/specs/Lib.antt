@@ -1,0 +1,4 @@
+pub mod Calls
+pub mod Runs
+pub mod Where
+pub mod Claim

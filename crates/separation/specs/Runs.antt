@@ -1,0 +1,82 @@
+-- A list of calls worked through (document 01, "Whole runs").
+use Prim.Native.Nat.{ℕ, _+_}
+use mathlib.Core.Bool.{Bool, true, false, not, _&&_, _||_}
+use mathlib.Core.List.{List, [], _∷_, _++_}
+use lib.Dec.{eqb}
+use Rattle.lists.specs.Words.{if_then_else_, at}
+use Rattle.trains.specs.Train.{trainAt}
+use Rattle.area.specs.declared.Answer.{Answer}
+use Rattle.area.specs.declared.Area.{Area}
+use Rattle.area.specs.declared.Outcome.{Outcome}
+use Rattle.area.specs.Answers.{numberOf}
+use Rattle.area.specs.Load.{loaded}
+use Rattle.separation.specs.Calls.{Call, Enter, Leave, Speed, Request, Grant, Position, called}
+
+-- what the list tells of each train by its number; nothing of it is read off the record's trains on, routes, places or positions
+pub record History : Type 0 where
+  -- it is on the area: from an enter of it answered done until the next leave of it answered done
+  pub on : ℕ → Bool
+  -- the route that this enter named
+  pub route : ℕ → ℕ
+  -- its way: 0 at that enter, and more by its speed at each position step answered done
+  pub way : ℕ → ℕ
+  -- segments by number: a grant step answered done since that enter allocated it to the train
+  pub granted : ℕ → ℕ → Bool
+
+-- the area record as the calls hand it on, what the list tells, and the answers in their order
+pub record World : Type 0 where
+  pub area : Area
+  pub history : History
+  pub answers : List Answer
+
+-- f, but x at n
+abbrev pub put : {A : Type 0} → (ℕ → A) → ℕ → A → ℕ → A
+put f n x k = if eqb k n then x else f k
+
+-- what a call answered done adds; a is the record that it was handed, b the one that it handed back.
+-- "A grant step allocated it to the train": the step changed the holder to this train
+unfoldable pub noted : History → Call → (a b : Area) → History
+noted h (Enter t r v) a b =
+    record { on = put (h .on) t true; route = put (h .route) t r; way = put (h .way) t 0; granted = put (h .granted) t (λ (s : ℕ). false) }
+noted h (Leave t) a b = record { on = put (h .on) t false; route = h .route; way = h .way; granted = h .granted }
+noted h (Speed wishes) a b = h
+noted h Request a b = h
+noted h Grant a b =
+    record {
+      on = h .on;
+      route = h .route;
+      way = h .way;
+      granted = λ (t s : ℕ). h .granted t s || (not (eqb (at (a .allocations) s) t) && eqb (at (b .allocations) s) t);
+    }
+noted h Position a b =
+    record { on = h .on; route = h .route; way = λ (t : ℕ). h .way t + trainAt (a .trains) t .speed; granted = h .granted }
+
+abbrev pub isDone : Answer → Bool
+isDone x = eqb (numberOf x) 0
+
+-- each call is handed the record that the one before handed back, after a refusal too
+abbrev pub worldBy : World → Call → Outcome → World
+worldBy w c o =
+    record {
+      area = o .area;
+      history = if isDone (o .answer) then noted (w .history) c (w .area) (o .area) else w .history;
+      answers = w .answers ++ (o .answer ∷ []);
+    }
+
+unfoldable pub next : World → Call → World
+next w c = worldBy w c (called (w .area) c)
+
+unfoldable pub afterFrom : World → List Call → World
+afterFrom w [] = w
+afterFrom w (c ∷ calls) = afterFrom (next w c) calls
+
+-- before the first call
+abbrev pub noHistory : History
+noHistory = record { on = λ (t : ℕ). false; route = λ (t : ℕ). 0; way = λ (t : ℕ). 0; granted = λ (t s : ℕ). false }
+
+unfoldable pub begin : Area → World
+begin a = record { area = a; history = noHistory; answers = [] }
+
+-- after a list of calls that starts from the record that load gives of a file
+unfoldable pub after : (file : List ℕ) → List Call → World
+after file calls = afterFrom (begin (loaded file .area)) calls

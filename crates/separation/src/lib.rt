@@ -1,0 +1,1 @@
+// What is claimed of every list of calls, and its proof. No code: the crate above runs lists of calls.
