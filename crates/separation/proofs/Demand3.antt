@@ -1,10 +1,9 @@
 -- The proof of the claim: what is kept holds before the first call and after each, and the claim's sentences follow from it.
 use Prim.Native.Nat.{ℕ}
-use mathlib.Core.Path.{_≡_, refl, sym, ap, _∙_}
-use mathlib.Core.Bool.{true, false}
+use mathlib.Core.Path.{_≡_, refl, ap, _∙_}
+use mathlib.Core.Bool.{false}
 use mathlib.Core.List.{List, [], _∷_}
 use native.Mathlib.Omega.{arith}
-use borrow.Author.Tests.{eq-eqb}
 use Rattle.lists.specs.Words.{nth}
 use Rattle.lists.proofs.Cases.{not-both}
 use Rattle.lists.proofs.Numbered.{nth-replicate}
@@ -12,8 +11,6 @@ use Rattle.tables.specs.declared.Tables.{Tables}
 use Rattle.tables.specs.Facts.{Meets}
 use Rattle.tables.proofs.Consistency.{consistent}
 use Rattle.reading.specs.Decoding.{decoded}
-use Rattle.reading.specs.Verdict.{accepted}
-use Rattle.reading.specs.Acceptance.{MeetsRules}
 use Rattle.reading.proofs.Accepted.{accepted-iff}
 use Rattle.reading.proofs.View.{tables-meet}
 use Rattle.trains.specs.Train.{off}
@@ -24,8 +21,7 @@ use Rattle.area.specs.Answers.{numberOf, placeOf}
 use Rattle.area.specs.Load.{fresh, loaded}
 use Rattle.area.proofs.Loading.{done-iff, done-fresh}
 use Rattle.separation.specs.Calls.{Call, called}
-use Rattle.separation.specs.Runs.{World, worldBy, next, afterFrom, noHistory, begin, after}
-use Rattle.separation.specs.Where.{OnArea}
+use Rattle.separation.specs.Runs.{World, worldBy, next, afterFrom, begin, after}
 use Rattle.separation.specs.Claim.{Separated, Demand3}
 use Rattle.separation.proofs.Laws.{nth-more}
 use Rattle.separation.proofs.Kept.{Kept, on-same, kept-sound}
@@ -40,7 +36,7 @@ pub record Good (T : Tables) (w : World) : Type 0 where
   pub placeless : (k : ℕ) → placeOf (nth Done (w .answers) k) ≡ 0
 
 module _ (T : Tables) (M : Meets T) where
-  good-fresh : Good T (begin (fresh T))
+  pub good-fresh : Good T (begin (fresh T))
   unfolding begin fresh nth
   good-fresh =
       record {
@@ -68,7 +64,7 @@ module _ (T : Tables) (M : Meets T) where
         placeless = nth-more Done (λ (y : Answer). placeOf y ≡ 0) (w .answers) (o .answer) refl (g .placeless) (p .noPlace);
       }
 
-  good-next : (w : World) → Good T w → (c : Call) → Good T (next w c)
+  pub good-next : (w : World) → Good T w → (c : Call) → Good T (next w c)
   unfolding next
   good-next w g c = good-by w g c (called (w .area) c) (went-called (w .area) (w .history) (g .kept) (rw (g .tables) M) c)
 
@@ -101,10 +97,18 @@ module _ (T : Tables) (M : Meets T) where
         placeless = g .placeless;
       }
 
+-- the tables of a file that load answers with done meet the rules, and its record is fresh
+pub file-meets : (file : List ℕ) → numberOf (loaded file .answer) ≡ 0 → Meets (decoded file)
+file-meets file done = tables-meet file (done-iff file .0 done)
+
+pub file-fresh : (file : List ℕ) → numberOf (loaded file .answer) ≡ 0 → loaded file .area ≡ fresh (decoded file)
+file-fresh file done = done-fresh file (accepted-iff file .1 (done-iff file .0 done))
+
 -- THE CLAIM
 pub demand3 : Demand3
 unfolding after
 demand3 file done calls =
-    let m = done-iff file .0 done in
-    let M = tables-meet file m in
-    rw (done-fresh file (accepted-iff file .1 m)) (good-separated (decoded file) M (afterFrom (begin (fresh (decoded file))) calls) (good-from (decoded file) M (begin (fresh (decoded file))) (good-fresh (decoded file) M) calls))
+    let T = decoded file in
+    let M = file-meets file done in
+    let start = begin (fresh T) in
+    rw (file-fresh file done) (good-separated T M (afterFrom start calls) (good-from T M start (good-fresh T M) calls))

@@ -1,23 +1,21 @@
 -- From what is kept, each sentence of the claim.
-use Prim.Native.Nat.{ℕ, zero, suc, _+_, _-_, _≤_, _<_}
-use mathlib.Core.Path.{_≡_, refl, sym, ap, _∙_}
+use Prim.Native.Nat.{ℕ, suc, _+_, _-_, _≤_, _<_}
+use mathlib.Core.Path.{_≡_, sym, ap, _∙_}
 use mathlib.Core.Logic.{_⊎_, inl, inr}
-use mathlib.Core.Bool.{Bool, true, false}
-use mathlib.Core.List.{List}
 use native.Mathlib.Omega.{arith}
 use lib.Dec.{eqb}
 use borrow.Author.Tests.{eq-eqb}
-use Rattle.lists.specs.Words.{if_then_else_, at}
+use Rattle.lists.specs.Words.{at}
 use Rattle.lists.proofs.Cases.{if-case, by-test, cases}
 use Rattle.braking.proofs.Laws.{S-B}
 use Rattle.tables.specs.declared.Tables.{Tables}
-use Rattle.tables.specs.Tables.{countOf, segmentAt}
+use Rattle.tables.specs.Tables.{countOf}
 use Rattle.tables.specs.Facts.{Consistent}
 use Rattle.trains.specs.declared.Train.{Train}
 use Rattle.trains.specs.Train.{trainAt, ownIn, ownOf, nextOf}
 use Rattle.trains.specs.Sound.{runIn, toRun}
 use Rattle.trains.specs.Way.{startAfter}
-use Rattle.trains.proofs.Safety.{TrainOk, holdsBy, own-is, next-is, in-margin, start-step, held-next}
+use Rattle.trains.proofs.Safety.{TrainOk, holdsBy, next-is, in-margin, start-step, held-next}
 use Rattle.separation.specs.Runs.{World}
 use Rattle.separation.specs.Where.{OnArea, routeOf, segmentOn, OwnPlace, HasOwn, OnSegment, GrantedNext, positionOf, speedOf, stillToRun, heldFrom, reach}
 use Rattle.separation.proofs.Places.{one-place}

@@ -1,7 +1,7 @@
 -- Each call of a list, done or refused, keeps what holds; none is answered 11, and none names a place.
 use Prim.Native.Nat.{ℕ, _≤_}
 use mathlib.Core.Path.{_≡_, refl, sym, ap, _∙_}
-use mathlib.Core.Bool.{Bool, true, false, not, _&&_}
+use mathlib.Core.Bool.{true, false, not, _&&_}
 use mathlib.Core.List.{List}
 use native.Mathlib.Omega.{arith}
 use lib.Dec.{leb, eqb}
@@ -10,10 +10,8 @@ use Rattle.lists.specs.Words.{if_then_else_, at}
 use Rattle.lists.specs.Tests.{Test, firstOf, conditionOf}
 use Rattle.lists.proofs.Cases.{by-test, not-both, facts}
 use Rattle.lists.proofs.Refusals.{passed, rising, first-named, first-none, first-number}
-use Rattle.tables.specs.declared.Tables.{Tables}
 use Rattle.tables.specs.Facts.{Meets}
 use Rattle.tables.proofs.Consistency.{consistent}
-use Rattle.trains.specs.Train.{trainAt, isOn}
 use Rattle.trains.specs.Steps.{firstSegment}
 use Rattle.area.specs.declared.Area.{Area}
 use Rattle.area.specs.declared.Outcome.{Outcome}

@@ -1,21 +1,20 @@
 -- Each call that is answered done keeps what holds of the record and of what the list tells.
-use Prim.Native.Nat.{ℕ, _+_, _≤_, _<_}
-use mathlib.Core.Path.{_≡_, refl, sym, ap, _∙_, subst}
+use Prim.Native.Nat.{ℕ, _+_, _≤_}
+use mathlib.Core.Path.{_≡_, refl, sym, ap, _∙_}
 use mathlib.Core.Logic.{_⊎_, inl, inr}
 use mathlib.Core.Bool.{Bool, true, false, not, _&&_, _||_}
 use mathlib.Core.List.{List}
 use native.Mathlib.Omega.{arith}
 use lib.Dec.{eqb}
 use lib.ListN.{length}
-use borrow.Author.Tests.{lt-ltb, eq-eqb, ne-eqb, eqb-true, eqb-false}
-use Rattle.lists.specs.Words.{if_then_else_, nth, at, each}
-use Rattle.lists.proofs.Cases.{if-case, by-test, cases, lt-or-le, eq-or-ne, not-both, either, either-yes}
-use Rattle.lists.proofs.Numbered.{nth-zero, nth-out, nth-each}
+use borrow.Author.Tests.{eq-eqb, ne-eqb}
+use Rattle.lists.specs.Words.{at, each}
+use Rattle.lists.proofs.Cases.{if-case, by-test, cases, lt-or-le, eq-or-ne, not-both, either-yes}
+use Rattle.lists.proofs.Numbered.{nth-zero, nth-each}
 use Rattle.tables.specs.declared.Tables.{Tables}
-use Rattle.tables.specs.Tables.{segmentAt}
 use Rattle.tables.specs.Facts.{Consistent, IsSegment}
 use Rattle.trains.specs.declared.Train.{Train}
-use Rattle.trains.specs.Train.{off, entered, trainAt, isOn, ownIn, ownOf, nextOf, ownLimit, holdsIn}
+use Rattle.trains.specs.Train.{off, entered, trainAt, isOn, ownIn, ownOf, nextOf, holdsIn}
 use Rattle.trains.specs.Steps.{sped, requested, granted, calmed, movesIn, moved, movedIn, released, freed, firstSegment, takenBy, freedBy, becomes}
 use Rattle.trains.proofs.Safety.{TrainOk, frame, speed-ok, request-ok, grant-ok, position-ok, enter-ok}
 use Rattle.trains.proofs.Grant.{AsksFor, grant-keeps, grant-asked}

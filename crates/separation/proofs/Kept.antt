@@ -1,5 +1,5 @@
 -- What holds of an area record and of what the list tells, after every call: the induction's tool.
-use Prim.Native.Nat.{ℕ, _+_, _≤_, _<_}
+use Prim.Native.Nat.{ℕ, _≤_}
 use mathlib.Core.Path.{_≡_, refl, sym, ap, _∙_}
 use mathlib.Core.Logic.{inl, inr}
 use mathlib.Core.Bool.{true, false}
@@ -8,17 +8,15 @@ use native.Mathlib.Omega.{arith}
 use lib.ListN.{length}
 use borrow.Author.Tests.{lt-ltb}
 use Rattle.lists.specs.Words.{at}
-use Rattle.lists.proofs.Cases.{by-test, cases, lt-or-le, eq-or-ne}
+use Rattle.lists.proofs.Cases.{by-test, cases, eq-or-ne}
 use Rattle.tables.specs.declared.Tables.{Tables}
-use Rattle.tables.specs.Facts.{Meets, Consistent}
+use Rattle.tables.specs.Facts.{Meets}
 use Rattle.tables.proofs.Consistency.{consistent}
 use Rattle.trains.specs.declared.Train.{Train}
 use Rattle.trains.specs.Train.{off, trainAt, isOn, holdsIn}
 use Rattle.trains.specs.SoundFacts.{SoundTrain, SoundAllocation}
 use Rattle.trains.proofs.Safety.{TrainOk, own-is, next-is}
-use Rattle.area.specs.declared.Area.{Area}
 use Rattle.area.specs.Sound.{sound}
-use Rattle.area.specs.SoundFacts.{SoundArea}
 use Rattle.area.proofs.Soundness.{sound-iff}
 use Rattle.separation.specs.Runs.{History}
 

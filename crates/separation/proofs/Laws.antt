@@ -1,5 +1,5 @@
 -- Laws of lists by number and of a list of tests that the proof needs beside those of `lists`.
-use Prim.Native.Nat.{ℕ, zero, suc, _+_, _-_, _≤_, _<_}
+use Prim.Native.Nat.{ℕ, zero, suc, _+_, _-_, _≤_}
 use mathlib.Core.Path.{_≡_, refl, sym, ap, _∙_}
 use mathlib.Core.Bool.{Bool, true, false, _&&_, and-eq-true-iff}
 use mathlib.Core.List.{List, [], _∷_, _++_}
@@ -10,7 +10,7 @@ use lib.ListN.{length}
 use borrow.Author.Tests.{eqb-true, ne-eqb}
 use Rattle.lists.specs.Words.{if_then_else_, nth, each}
 use Rattle.lists.specs.Tests.{Test, firstOf}
-use Rattle.lists.proofs.Cases.{cases, lt-or-le, by-test}
+use Rattle.lists.proofs.Cases.{cases, lt-or-le}
 use Rattle.lists.proofs.Numbered.{nth-zero, nth-out, stored}
 
 module _ {A B : Type 0} where

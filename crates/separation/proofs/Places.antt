@@ -1,7 +1,6 @@
 -- A way lies in one segment of a route at the most: the starts of a route's segments rise.
-use Prim.Native.Nat.{ℕ, zero, suc, _+_, _-_, _≤_, _<_}
+use Prim.Native.Nat.{ℕ, zero, suc, _-_, _≤_, _<_}
 use mathlib.Core.Path.{_≡_}
-use native.Mathlib.Nat.{le-of-suc-le-suc, not-suc-le-zero}
 use native.Mathlib.Omega.{arith}
 use Rattle.lists.specs.Words.{at}
 use Rattle.lists.proofs.Cases.{cases, lt-or-le, eq-or-ne}
@@ -9,7 +8,7 @@ use Rattle.tables.specs.declared.Tables.{Tables}
 use Rattle.trains.specs.Way.{startAfter}
 
 module _ (T : Tables) (r : ℕ) where
-  start-mono : (m n : ℕ) → m ≤ n → startAfter T r m ≤ startAfter T r n
+  pub start-mono : (m n : ℕ) → m ≤ n → startAfter T r m ≤ startAfter T r n
   unfolding startAfter
   start-mono m zero h = let e : m ≡ 0 = omega arith in rw e (omega arith)
   start-mono m (suc n) h = cases (eq-or-ne m (suc n)) (λ e. rw e (omega arith)) (λ e. let l = start-mono m n (omega arith) in omega arith)

@@ -8,7 +8,6 @@ use Rattle.lists.specs.Words.{nth, at}
 use Rattle.tables.specs.declared.Tables.{Tables}
 use Rattle.reading.specs.Decoding.{decoded}
 use Rattle.trains.specs.Train.{trainAt, isOn}
-use Rattle.area.specs.declared.Answer.{Answer}
 use Rattle.area.specs.declared.Answer.the-variants.{Done}
 use Rattle.area.specs.Answers.{numberOf, placeOf}
 use Rattle.area.specs.Load.{loaded}

@@ -2,3 +2,4 @@ pub mod Calls
 pub mod Runs
 pub mod Where
 pub mod Claim
+pub mod Ways

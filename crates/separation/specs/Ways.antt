@@ -1,0 +1,106 @@
+-- The same list worked through with trains that have only a way: place and position are not kept but worked out of it wherever the
+-- record is looked at (document 01, "Whole runs").
+use Prim.Native.Nat.{ℕ, _+_, _-_}
+use mathlib.Core.Bool.{Bool, false}
+use mathlib.Core.List.{List, [], _∷_, _++_}
+use lib.Dec.{ltb, eqb}
+use Rattle.lists.specs.Words.{if_then_else_, nth, each, tabulate, least}
+use Rattle.tables.specs.declared.Tables.{Tables}
+use Rattle.tables.specs.Tables.{countOf}
+use Rattle.trains.specs.declared.Train.{Train}
+use Rattle.trains.specs.Train.{mostTrains, off, trainAt}
+use Rattle.trains.specs.Way.{startAfter}
+use Rattle.area.specs.declared.Answer.{Answer}
+use Rattle.area.specs.declared.Area.{Area}
+use Rattle.area.specs.declared.Outcome.{Outcome}
+use Rattle.area.specs.Load.{loaded}
+use Rattle.separation.specs.Calls.{Call, Enter, Leave, Speed, Request, Grant, Position, called}
+use Rattle.separation.specs.Runs.{isDone}
+
+-- a train that has a way and neither place nor position; route 0 is a train off
+pub record WayTrain : Type 0 where
+  pub route : ℕ
+  pub way : ℕ
+  pub speed : ℕ
+  pub asks : Bool
+
+abbrev pub offWay : WayTrain
+offWay = record { route = 0; way = 0; speed = 0; asks = false }
+
+pub record WayWorld : Type 0 where
+  pub tables : Tables
+  pub allocations : List ℕ
+  pub trains : List WayTrain
+  pub due : ℕ
+  pub answers : List Answer
+
+abbrev pub wayTrainAt : WayWorld → ℕ → WayTrain
+wayTrainAt i t = nth offWay (i .trains) t
+
+-- the place of a way: the first of the route that ends beyond it
+unfoldable pub placeOfWay : Tables → (route way : ℕ) → ℕ
+placeOfWay T r way = least (countOf (T .ways) r) (λ (p : ℕ). ltb way (startAfter T r p))
+
+-- the train that the record shows
+unfoldable pub shownTrain : Tables → WayTrain → Train
+shownTrain T i =
+    if ltb 0 (i .route)
+    then record {
+      route = i .route;
+      place = placeOfWay T (i .route) (i .way);
+      position = i .way - startAfter T (i .route) (placeOfWay T (i .route) (i .way) - 1);
+      speed = i .speed;
+      asks = i .asks;
+    }
+    else off
+
+abbrev pub shown : WayWorld → Area
+shown i = record { tables = i .tables; allocations = i .allocations; trains = each (λ (t : ℕ). shownTrain (i .tables)) (i .trains); due = i .due }
+
+-- a way after a call answered done: 0 at an enter, and more by the speed at a position step
+abbrev pub wayAfter : Call → (t : ℕ) → WayTrain → ℕ
+wayAfter (Enter u r v) t i = if eqb t u then 0 else i .way
+wayAfter (Leave u) t i = i .way
+wayAfter (Speed wishes) t i = i .way
+wayAfter Request t i = i .way
+wayAfter Grant t i = i .way
+wayAfter Position t i = i .way + i .speed
+
+-- route, speed and asking are those of the train that the call hands back
+abbrev pub wayTrainBy : WayWorld → Call → Outcome → ℕ → WayTrain
+wayTrainBy i c o t =
+    record {
+      route = trainAt (o .area .trains) t .route;
+      way = if isDone (o .answer) then wayAfter c t (wayTrainAt i t) else wayTrainAt i t .way;
+      speed = trainAt (o .area .trains) t .speed;
+      asks = trainAt (o .area .trains) t .asks;
+    }
+
+abbrev pub wayWorldBy : WayWorld → Call → Outcome → WayWorld
+wayWorldBy i c o =
+    record {
+      tables = o .area .tables;
+      allocations = o .area .allocations;
+      trains = tabulate mostTrains (wayTrainBy i c o);
+      due = o .area .due;
+      answers = i .answers ++ (o .answer ∷ []);
+    }
+
+unfoldable pub nextByWays : WayWorld → Call → WayWorld
+nextByWays i c = wayWorldBy i c (called (shown i) c)
+
+unfoldable pub byWaysFrom : WayWorld → List Call → WayWorld
+byWaysFrom i [] = i
+byWaysFrom i (c ∷ calls) = byWaysFrom (nextByWays i c) calls
+
+unfoldable pub byWays : (file : List ℕ) → List Call → WayWorld
+byWays file calls =
+    byWaysFrom
+    (record {
+      tables = loaded file .area .tables;
+      allocations = loaded file .area .allocations;
+      trains = tabulate mostTrains (λ (t : ℕ). offWay);
+      due = loaded file .area .due;
+      answers = [];
+    })
+    calls
