@@ -16,6 +16,7 @@ use Rattle.reading.proofs.View.{tables-meet}
 use Rattle.trains.specs.Train.{off}
 use Rattle.area.specs.declared.Answer.{Answer}
 use Rattle.area.specs.declared.Answer.the-variants.{Done}
+use Rattle.area.specs.declared.Area.{Area}
 use Rattle.area.specs.declared.Outcome.{Outcome}
 use Rattle.area.specs.Answers.{numberOf, placeOf}
 use Rattle.area.specs.Load.{fresh, loaded}
@@ -60,8 +61,8 @@ module _ (T : Tables) (M : Meets T) where
       record {
         tables = p .tables ∙ g .tables;
         kept = p .kept;
-        neverUnsound = nth-more Done (λ (y : Answer). numberOf y ≡ 11 → ⊥) (w .answers) (o .answer) (λ e. omega arith) (g .neverUnsound) (p .notUnsound);
-        placeless = nth-more Done (λ (y : Answer). placeOf y ≡ 0) (w .answers) (o .answer) refl (g .placeless) (p .noPlace);
+        neverUnsound = nth-more Done (λ (y : Answer). numberOf y ≡ 11 → ⊥) (w .answers) _ (λ e. omega arith) (g .neverUnsound) (p .notUnsound);
+        placeless = nth-more Done (λ (y : Answer). placeOf y ≡ 0) (w .answers) _ refl (g .placeless) (p .noPlace);
       }
 
   pub good-next : (w : World) → Good T w → (c : Call) → Good T (next w c)
@@ -104,11 +105,16 @@ file-meets file done = tables-meet file (done-iff file .0 done)
 pub file-fresh : (file : List ℕ) → numberOf (loaded file .answer) ≡ 0 → loaded file .area ≡ fresh (decoded file)
 file-fresh file done = done-fresh file (accepted-iff file .1 (done-iff file .0 done))
 
+-- so the list starts from a fresh record of the file's tables
+pub from-fresh :
+    (file : List ℕ) → numberOf (loaded file .answer) ≡ 0 → (calls : List Call) → after file calls ≡ afterFrom (begin (fresh (decoded file))) calls
+unfolding after
+from-fresh file done calls = ap (λ (a : Area). afterFrom (begin a) calls) (file-fresh file done)
+
 -- THE CLAIM
 pub demand3 : Demand3
-unfolding after
 demand3 file done calls =
     let T = decoded file in
     let M = file-meets file done in
     let start = begin (fresh T) in
-    rw (file-fresh file done) (good-separated T M (afterFrom start calls) (good-from T M start (good-fresh T M) calls))
+    rw (from-fresh file done calls) (good-separated T M (afterFrom start calls) (good-from T M start (good-fresh T M) calls))

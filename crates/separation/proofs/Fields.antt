@@ -49,24 +49,33 @@ module _ (T : Tables) (K : Consistent T) (w : World) (k : Kept T (w .area .alloc
       }
 
   -- and the only one
-  pub here : (t p : ℕ) → OwnPlace T w t p → x t .place ≡ p
-  here t p o =
-      let q = own-here t (o .on) in
-      one-place T (routeOf T w t) (w .history .way t) (x t .place) p (q .place .0) (o .place .0) (q .starts) (q .ends) (o .starts) (o .ends)
+  pub has-own : (t : ℕ) → OnArea T w t → HasOwn T w t
+  has-own t o =
+      let q = own-here t o in
+      record {
+        place = x t .place;
+        own = q;
+        only = λ p r. one-place T (routeOf T w t) (w .history .way t) p (x t .place) (r .place .0) (q .place .0) (r .starts) (r .ends) (q .starts) (q .ends);
+      }
 
-  -- the segment that a train is on is the record's own, so that segment's conditions are those of the record
-  on-own : (t s : ℕ) → OnSegment T w t s → ownOf T (x t) ≡ s
-  on-own t s o = own-segment t (o .own .on) ∙ (ap (segmentOn T w t) (here t (o .place) (o .own)) ∙ o .segment)
+  pub here : (t p : ℕ) → OwnPlace T w t p → x t .place ≡ p
+  unfolding has-own
+  here t p o = sym (has-own t (o .on) .only p o)
+
+  -- the record's own segment is the one at an own place
+  own-at : (t p s : ℕ) → OwnPlace T w t p → segmentOn T w t p ≡ s → ownOf T (x t) ≡ s
+  own-at t p s o e = own-segment t (o .on) ∙ (ap (segmentOn T w t) (here t p o) ∙ e)
 
   pub is-apart : (t u s : ℕ) → OnSegment T w t s → OnSegment T w u s → t ≡ u
   is-apart t u s a b =
-      sym (rw (on-own t s a) at (ok t (a .own .on) .holds)) ∙ rw (on-own u s b) at (ok u (b .own .on) .holds)
+      sym (rw (own-at t (a .place) s (a .own) (a .segment)) at (ok t (a .own .on) .holds))
+      ∙ rw (own-at u (b .place) s (b .own) (b .segment)) at (ok u (b .own .on) .holds)
 
   pub is-allocated : (t s : ℕ) → OnSegment T w t s → at (w .area .allocations) s ≡ t
-  is-allocated t s o = rw (on-own t s o) at (ok t (o .own .on) .holds)
+  is-allocated t s o = rw (own-at t (o .place) s (o .own) (o .segment)) at (ok t (o .own .on) .holds)
 
   pub is-slow : (t s : ℕ) → OnSegment T w t s → speedOf T w t ≤ at (T .limits) s
-  is-slow t s o = rw (on-own t s o) at (ok t (o .own .on) .slow)
+  is-slow t s o = rw (own-at t (o .place) s (o .own) (o .segment)) at (ok t (o .own .on) .slow)
 
   pub is-only : (t s : ℕ) → 1 ≤ t → at (w .area .allocations) s ≡ t → OnSegment T w t s ⊎ GrantedNext T w t s
   is-only t s some e =
@@ -107,10 +116,7 @@ module _ (T : Tables) (K : Consistent T) (w : World) (k : Kept T (w .area .alloc
       (λ h. omega (arith, ok t o .stops h, ap (at (T .lengths)) (own-segment t o)))
 
   pub is-position : (t p : ℕ) → OwnPlace T w t p → x t .position ≡ positionOf T w t p
-  is-position t p o = rw (sym (here t p o)) (omega (arith, walked t (o .on)))
+  is-position t p o = omega (arith, walked t (o .on), ap (λ (q : ℕ). startAfter T (routeOf T w t) (q - 1)) (here t p o))
 
   pub is-stopping : (t p : ℕ) → OwnPlace T w t p → positionOf T w t p + stillToRun T w t < reach T w t p
   is-stopping t p o = rw (sym (is-position t p o), sym (here t p o)) (stops-here t (o .on))
-
-  pub has-own : (t : ℕ) → OnArea T w t → HasOwn T w t
-  has-own t o = record { place = x t .place; own = own-here t o; only = λ p q. sym (here t p q) }

@@ -18,7 +18,7 @@ use Rattle.trains.specs.Train.{off, entered, trainAt, isOn, ownIn, ownOf, nextO
 use Rattle.trains.specs.Steps.{sped, requested, granted, calmed, movesIn, moved, movedIn, released, freed, firstSegment, takenBy, freedBy, becomes}
 use Rattle.trains.proofs.Safety.{TrainOk, frame, speed-ok, request-ok, grant-ok, position-ok, enter-ok}
 use Rattle.trains.proofs.Grant.{AsksFor, grant-keeps, grant-asked}
-use Rattle.separation.specs.Runs.{History, put}
+use Rattle.separation.specs.Runs.{History, put, atEnter, atLeave, atGrant, atPosition}
 use Rattle.separation.proofs.Laws.{length-each, nth-each-in, nth-where, nth-stored}
 use Rattle.separation.proofs.Kept.{Kept, route-some, on-same}
 
@@ -96,7 +96,7 @@ module _ (T : Tables) (K : Consistent T) (A : List ℕ) (X : List Train) (h : Hi
     A′ = each (granted T X) A
 
     abbrev granted′ : ℕ → ℕ → Bool
-    granted′ t s = h .granted t s || (not (eqb (at A s) t) && eqb (at A′ s) t)
+    granted′ = atGrant h A A′ .granted
 
     -- an allocation after the grant: of before, or granted to a train that asks for the segment as its next
     gained : (s t : ℕ) → 1 ≤ t → at A′ s ≡ t → (at A s ≡ t) ⊎ ((at A s ≡ t → ⊥) × AsksFor T X t s)
@@ -126,7 +126,7 @@ module _ (T : Tables) (K : Consistent T) (A : List ℕ) (X : List Train) (h : Hi
         either-yes (h .granted t s) (not (eqb (at A s) t) && eqb (at A′ s) t)
         (inr (rw (ne-eqb (at A s) t n, eq-eqb (at A′ s) t e)))
 
-    pub keep-grant : Kept T A′ (each (λ (t : ℕ). calmed) X) 3 (record { on = h .on; route = h .route; way = h .way; granted = granted′ })
+    pub keep-grant : Kept T A′ (each (λ (t : ℕ). calmed) X) 3 (atGrant h A A′)
     keep-grant =
         step-keeps k (λ (t : ℕ). calmed) A′ 3 (h .way) granted′ (omega arith) (length-each (granted T X) A ∙ k .segments) (λ t. refl) (λ t x. refl)
         (λ t o.
@@ -165,10 +165,10 @@ module _ (T : Tables) (K : Consistent T) (A : List ℕ) (X : List Train) (h : Hi
         (λ r. let z : at A s ≡ t = rw r at q in (z, rw z at r))
 
     pub keep-position :
-        Kept T A″ (each (λ (t : ℕ). moved T) X) 0 (record { on = h .on; route = h .route; way = λ (t : ℕ). h .way t + trainAt X t .speed; granted = h .granted })
+        Kept T A″ (each (λ (t : ℕ). moved T) X) 0 (atPosition h X)
     unfolding movesIn movedIn
     keep-position =
-        step-keeps k (λ (t : ℕ). moved T) A″ 0 (λ (t : ℕ). h .way t + trainAt X t .speed) (h .granted) (omega arith) (length-each (freed T X) A ∙ k .segments) (λ t. refl)
+        step-keeps k (λ (t : ℕ). moved T) A″ 0 (atPosition h X .way) (h .granted) (omega arith) (length-each (freed T X) A ∙ k .segments) (λ t. refl)
         (λ t x. if-case (λ (y : Train). y .route ≡ x .route) (movesIn (at (T .lengths) (ownOf T x)) x) (λ e. refl) (λ e. refl))
         (λ t o.
         let some = number-some t X (route-some T A X 3 h k t o) in
@@ -200,7 +200,7 @@ module _ (T : Tables) (K : Consistent T) (A : List ℕ) (X : List Train) (h : Hi
         (λ z. let p : 0 ≡ u = rw (eq-eqb (at A s) t z) at q in absurd (omega arith))
         (λ n. let p : at A s ≡ u = rw (ne-eqb (at A s) t n) at q in (p, λ z. n (p ∙ z)))
 
-    pub keep-leave : Kept T leftA leftX due (record { on = put (h .on) t false; route = h .route; way = h .way; granted = h .granted })
+    pub keep-leave : Kept T leftA leftX due (atLeave h t)
     keep-leave =
         record {
           dueOk = k .dueOk;
@@ -224,7 +224,7 @@ module _ (T : Tables) (K : Consistent T) (A : List ℕ) (X : List Train) (h : Hi
         }
       where
         -- a train that is on afterwards is another, which was on
-        was : (u : ℕ) → put (h .on) t false u ≡ true → (u ≡ t → ⊥) × (h .on u ≡ true)
+        was : (u : ℕ) → atLeave h t .on u ≡ true → (u ≡ t → ⊥) × (h .on u ≡ true)
         was u o =
             cases (eq-or-ne u t) (λ e. not-both (put (h .on) t false u) o (put-same (h .on) t false u e))
             (λ n. (n, sym (put-other (h .on) t false u n) ∙ o))
@@ -275,9 +275,6 @@ module _ (T : Tables) (K : Consistent T) (A : List ℕ) (X : List Train) (h : Hi
         let q : takenBy first t s (at A s) ≡ t = sym (take-look s) ∙ e in
         cases (eq-or-ne s first) (λ z. z) (λ z. absurd (none-held s (rw (ne-eqb s first z) at q)))
 
-    abbrev enteredHistory : History
-    enteredHistory = record { on = put (h .on) t true; route = put (h .route) t r; way = put (h .way) t 0; granted = put (h .granted) t (λ (s : ℕ). false) }
-
     itself : TrainOk T due (at takenA) t (entered r v) 0 (λ (s : ℕ). false)
     unfolding ownIn
     itself = enter-ok T K due (at takenA) t r v (λ (s : ℕ). false) (isRoute .0) (isRoute .1) slow first-held first-only
@@ -287,7 +284,7 @@ module _ (T : Tables) (K : Consistent T) (A : List ℕ) (X : List Train) (h : Hi
         let some = number-some u X (route-some T A X due h k u o) in
         frame T K (k .ons u o) (λ s e. others-held s u some e) (λ s e. others-still s u n e) (λ s e. e)
 
-    pub keep-enter : Kept T takenA takenX due enteredHistory
+    pub keep-enter : Kept T takenA takenX due (atEnter h t r)
     keep-enter =
         record {
           dueOk = k .dueOk;

@@ -4,6 +4,7 @@ use mathlib.Core.Bool.{Bool, true, false, not, _&&_, _||_}
 use mathlib.Core.List.{List, [], _∷_, _++_}
 use lib.Dec.{eqb}
 use Rattle.lists.specs.Words.{if_then_else_, at}
+use Rattle.trains.specs.declared.Train.{Train}
 use Rattle.trains.specs.Train.{trainAt}
 use Rattle.area.specs.declared.Answer.{Answer}
 use Rattle.area.specs.declared.Area.{Area}
@@ -33,23 +34,36 @@ pub record World : Type 0 where
 abbrev pub put : {A : Type 0} → (ℕ → A) → ℕ → A → ℕ → A
 put f n x k = if eqb k n then x else f k
 
--- what a call answered done adds; a is the record that it was handed, b the one that it handed back.
--- "A grant step allocated it to the train": the step changed the holder to this train
-unfoldable pub noted : History → Call → (a b : Area) → History
-noted h (Enter t r v) a b =
+-- an enter of train t on route r
+abbrev pub atEnter : History → (t r : ℕ) → History
+atEnter h t r =
     record { on = put (h .on) t true; route = put (h .route) t r; way = put (h .way) t 0; granted = put (h .granted) t (λ (s : ℕ). false) }
-noted h (Leave t) a b = record { on = put (h .on) t false; route = h .route; way = h .way; granted = h .granted }
-noted h (Speed wishes) a b = h
-noted h Request a b = h
-noted h Grant a b =
+
+abbrev pub atLeave : History → (t : ℕ) → History
+atLeave h t = record { on = put (h .on) t false; route = h .route; way = h .way; granted = h .granted }
+
+-- a grant step, by the allocations before (A) and after it (A′); "allocated it to the train": changed the holder to this train
+abbrev pub atGrant : History → (A A′ : List ℕ) → History
+atGrant h A A′ =
     record {
       on = h .on;
       route = h .route;
       way = h .way;
-      granted = λ (t s : ℕ). h .granted t s || (not (eqb (at (a .allocations) s) t) && eqb (at (b .allocations) s) t);
+      granted = λ (t s : ℕ). h .granted t s || (not (eqb (at A s) t) && eqb (at A′ s) t);
     }
-noted h Position a b =
-    record { on = h .on; route = h .route; way = λ (t : ℕ). h .way t + trainAt (a .trains) t .speed; granted = h .granted }
+
+-- a position step of the trains X
+abbrev pub atPosition : History → (X : List Train) → History
+atPosition h X = record { on = h .on; route = h .route; way = λ (t : ℕ). h .way t + trainAt X t .speed; granted = h .granted }
+
+-- what a call answered done adds; a is the record that it was handed, b the one that it handed back
+unfoldable pub noted : History → Call → (a b : Area) → History
+noted h (Enter t r v) a b = atEnter h t r
+noted h (Leave t) a b = atLeave h t
+noted h (Speed wishes) a b = h
+noted h Request a b = h
+noted h Grant a b = atGrant h (a .allocations) (b .allocations)
+noted h Position a b = atPosition h (a .trains)
 
 abbrev pub isDone : Answer → Bool
 isDone x = eqb (numberOf x) 0
