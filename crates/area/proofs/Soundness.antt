@@ -5,11 +5,12 @@ use mathlib.Core.Logic.{inl, inr, _↔_}
 use mathlib.Core.Bool.{Bool, true, false}
 use mathlib.Core.List.{List}
 use native.Mathlib.Omega.{arith}
+use lib.ListN.{length}
 use borrow.Author.Tests.{leb-true, le-leb, eq-eqb}
 use Rattle.lists.specs.Words.{at}
 use Rattle.lists.proofs.Cases.{and-iff, cases, lt-or-le, eq-or-ne}
 use Rattle.lists.proofs.Loops.{every-at, every-all}
-use Rattle.lists.proofs.Numbered.{nth-replicate}
+use Rattle.lists.proofs.Numbered.{nth-zero, nth-out, nth-replicate}
 use Rattle.tables.specs.Bounds.{mostSegments}
 use Rattle.tables.specs.Tables.{blankTables}
 use Rattle.tables.specs.Rules.{headerIn, meets}
@@ -18,11 +19,12 @@ use Rattle.reading.specs.Decoding.{decoded}
 use Rattle.reading.specs.Verdict.{accepted}
 use Rattle.reading.proofs.Accepted.{accepted-iff}
 use Rattle.reading.proofs.View.{tables-meet}
-use Rattle.trains.specs.Train.{mostTrains, off, trainAt, holdsIn}
+use Rattle.trains.specs.Train.{mostTrains, off, trainAt, ownOf, holdsIn}
 use Rattle.trains.specs.Steps.{low, upperEnd}
 use Rattle.trains.specs.Sound.{trainSound, allocationSound}
-use Rattle.trains.proofs.Safety.{low-high}
+use Rattle.trains.proofs.Safety.{own-is, low-high}
 use Rattle.trains.proofs.Soundness.{train-iff, off-iff, allocation-iff}
+use Rattle.moves.specs.Room.{Room}
 use Rattle.area.specs.declared.Area.{Area}
 use Rattle.area.specs.Load.{fresh, blank}
 use Rattle.area.specs.Sound.{sound}
@@ -111,3 +113,27 @@ range-sound a f t from to on =
     low-high (a .tables) (consistent (a .tables) (f .tables)) (at (a .allocations)) t x
     (record { routeLow = on; routeHigh = s .route; placeLow = s .place .0; placeHigh = s .place .1 })
     (s .speed)
+
+-- the trains of a sound record have the room that a move asks for
+pub room-of : (a : Area) → SoundArea a → length (a .trains) ≡ 24 → (t : ℕ) → Room (trainAt (a .trains) t)
+room-of a f long t =
+    cases (lt-or-le t 1) (λ z. room-off (nth-zero off (a .trains) t (omega arith)))
+    (λ from.
+    cases (lt-or-le mostTrains t) (λ out. room-off (nth-out off (a .trains) t (omega arith)))
+    (λ to.
+    cases (lt-or-le 0 (trainAt (a .trains) t .route)) (room-on from to)
+    (λ z. room-off (f .offs t from to (omega arith)))))
+  where
+    room-off : trainAt (a .trains) t ≡ off → Room (trainAt (a .trains) t)
+    room-off e = rw e (record { place = omega arith; position = omega arith })
+
+    room-on : 1 ≤ t → t ≤ mostTrains → 1 ≤ trainAt (a .trains) t .route → Room (trainAt (a .trains) t)
+    room-on from to on =
+        let x = trainAt (a .trains) t in
+        let s = f .ons t from to on in
+        let K = consistent (a .tables) (f .tables) in
+        let own = own-is (a .tables) K x (record { routeLow = on; routeHigh = s .route; placeLow = s .place .0; placeHigh = s .place .1 }) in
+        record {
+          place = omega (arith, s .place, K .counted (x .route) on (s .route));
+          position = omega (arith, s .position, s .speed, K .short (ownOf (a .tables) x) own, K .limited (ownOf (a .tables) x) own, K .gmax);
+        }

@@ -1,9 +1,9 @@
 // An area by value, and its calls: each takes the record and hands it back in an outcome. A refusal hands it back as it came.
 ghost use mathlib.Core.Path.{_≡_};
-ghost use Rattle.area.specs.Answers.{answerOf};
+ghost use Rattle.area.specs.Answers.{answerOf, numberOf};
 ghost use Rattle.area.specs.Load.{fresh, loaded};
 ghost use Rattle.area.specs.Sound.{sound};
-ghost use Rattle.area.specs.Calls.{outcome, routeTests, afterEnter, enterCall, leaveCall, speedCall, requestCall, grantCall, reported};
+ghost use Rattle.area.specs.Calls.{outcome, routeTests, afterEnter, enterCall, leaveCall, speedCall, requestCall, grantCall, positionCall, reported};
 use tables::Tables;
 use trains::Train;
 
@@ -40,6 +40,16 @@ fn answer_of(number: u8, place: u16) -> Answer
         return Answer::Done;
     }
     Answer::Refused { number, place }
+}
+
+// The number that an answer has in document 01's table, 0 for done.
+pub fn number_of(answer: Answer) -> u8
+    ensures { λ r. ⌜ r ≡ numberOf answer ⌝ }
+{
+    match answer {
+        Answer::Done => 0,
+        Answer::Refused { number, place } => number,
+    }
 }
 
 fn refused(area: Area, number: u8) -> Outcome
@@ -106,9 +116,9 @@ fn enter_route(area: Area, t: u8, route: u16, speed: u16) -> Outcome
         return refused(area, 19);
     }
     let before = area.trains;
-    let allocations = steps::taken_all(held, first, t);
+    let allocations = moves::taken_all(held, first, t);
     let entered = trains::entered_train(r, speed);
-    let trains = steps::with_train(before, t, entered);
+    let trains = moves::with_train(before, t, entered);
     done(Area {
         tables,
         allocations,
@@ -179,9 +189,9 @@ impl Area {
             return refused(self, 20);
         }
         let held = self.allocations;
-        let allocations = steps::freed_all(held, t);
+        let allocations = moves::freed_all(held, t);
         let off = trains::train_off();
-        let trains = steps::with_train(before, t, off);
+        let trains = moves::with_train(before, t, off);
         done(Area {
             tables,
             allocations,
@@ -254,6 +264,28 @@ impl Area {
             allocations,
             trains,
             due: 3,
+        })
+    }
+
+    pub fn position(self) -> Outcome
+        ensures { λ r. ⌜ r ≡ positionCall self ⌝ }
+    {
+        if !self.sound() {
+            return refused(self, 11);
+        }
+        if self.due != 3 {
+            return refused(self, 12);
+        }
+        let tables = self.tables;
+        let held = self.allocations;
+        let before = self.trains;
+        let allocations = moves::released_all(tables, before, held);
+        let trains = moves::moved_all(tables, before);
+        done(Area {
+            tables,
+            allocations,
+            trains,
+            due: 0,
         })
     }
 

@@ -1,5 +1,5 @@
 -- From what is kept, each sentence of the claim.
-use Prim.Native.Nat.{ℕ, suc, _+_, _-_, _≤_, _<_}
+use Prim.Native.Nat.{ℕ, zero, suc, _+_, _-_, _≤_, _<_}
 use mathlib.Core.Path.{_≡_, sym, ap, _∙_}
 use mathlib.Core.Logic.{_⊎_, inl, inr}
 use native.Mathlib.Omega.{arith}
@@ -88,17 +88,24 @@ module _ (T : Tables) (K : Consistent T) (w : World) (k : Kept T (w .area .alloc
       let same : segmentOn T w t (x t .place + 1) ≡ s = rw (sym (k .routes t o)) (sym (n .same)) ∙ sym (q .1) in
       inr (record { place = x t .place; own = own-here t o; later = later; next = same; granted = q .2 }))
 
+  -- the first of the segments from place p on counts where it is allocated to the train
+  held-first :
+      (n t p s : ℕ) → 1 ≤ n → segmentOn T w t p ≡ s → at (w .area .allocations) s ≡ t
+      → at (T .lengths) s ≤ heldFrom T w n t p
+  unfolding heldFrom
+  held-first zero t p s some same e = absurd (omega arith)
+  held-first (suc n) t p s some same e = rw (same, eq-eqb (at (w .area .allocations) s) t e) (omega arith)
+
   -- where its next is allocated to a train, its reach goes as far as that at least
   next-reached :
       (t : ℕ) → OnArea T w t → 1 ≤ nextOf T (x t) → at (w .area .allocations) (nextOf T (x t)) ≡ t
       → at (T .lengths) (ownOf T (x t)) + at (T .lengths) (nextOf T (x t)) ≤ reach T w t (x t .place)
-  unfolding heldFrom
   next-reached t o some e =
       let n = next-is T K (x t) (ok t o .onRoute) some in
       let later : x t .place < countOf (T .ways) (routeOf T w t) = rw (sym (k .routes t o)) (n .later) in
       let same : segmentOn T w t (x t .place + 1) ≡ nextOf T (x t) = rw (sym (k .routes t o)) (sym (n .same)) in
-      let m : countOf (T .ways) (routeOf T w t) - x t .place ≡ suc (countOf (T .ways) (routeOf T w t) - x t .place - 1) = omega arith in
-      rw (m, same, eq-eqb (at (w .area .allocations) (nextOf T (x t))) t e, own-segment t o) (omega arith)
+      let more = held-first (countOf (T .ways) (routeOf T w t) - x t .place) t (x t .place + 1) (nextOf T (x t)) (omega arith) same e in
+      omega (arith, more, ap (at (T .lengths)) (own-segment t o))
 
   run-margin : (t : ℕ) → OnArea T w t → toRun T (w .area .due) (x t .speed) ≤ T .margin
   unfolding runIn

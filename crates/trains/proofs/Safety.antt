@@ -5,18 +5,18 @@ use mathlib.Core.Path.{_≡_, refl, sym, _∙_}
 use mathlib.Core.Logic.{_⊎_, inl, inr}
 use mathlib.Core.Bool.{Bool, true, false, not, _&&_, and-false, and-eq-true-iff}
 use native.Mathlib.Omega.{arith}
-use lib.Dec.{leb, ltb, eqb}
-use borrow.Author.Tests.{ltb-true, leb-false, eqb-true, lt-ltb, le-ltb, eq-eqb, ne-eqb, lt-leb, le-leb}
+use lib.Dec.{ltb, eqb}
+use borrow.Author.Tests.{ltb-true, leb-false, eqb-true, lt-ltb, le-ltb, eq-eqb, ne-eqb, lt-leb}
 use Rattle.lists.specs.Words.{if_then_else_, at}
-use Rattle.lists.proofs.Cases.{if-case, by-test, cases, lt-or-le, not-both}
+use Rattle.lists.proofs.Cases.{if-case, by-test, cases, lt-or-le, not-both, facts}
 use Rattle.braking.specs.Braking.{S, B}
 use Rattle.braking.proofs.Laws.{S-mono, S-B, B-step, S-above}
 use Rattle.tables.specs.declared.Tables.{Tables}
 use Rattle.tables.specs.Tables.{countOf, segmentAt}
 use Rattle.tables.specs.Facts.{IsSegment, Follows, Consistent}
 use Rattle.trains.specs.declared.Train.{Train}
-use Rattle.trains.specs.Train.{isOn, entered, withSpeed, withAsking, movedTo, ownIn, ownOf, nextIn, nextOf, ownLength, ownLimit, nextLimit, nearIn, near}
-use Rattle.trains.specs.Steps.{speedIn, wantsIn, movesIn, moved, movedIn, released}
+use Rattle.trains.specs.Train.{entered, withSpeed, withAsking, movedTo, ownIn, ownOf, nextIn, nextOf, ownLength, ownLimit, nextLimit, nearIn, near}
+use Rattle.trains.specs.Steps.{speedIn, wantsIn, movesIn, movesOn, moved, movedIn, released}
 use Rattle.trains.specs.Sound.{runIn, toRun}
 use Rattle.trains.specs.Way.{startAfter}
 
@@ -311,16 +311,16 @@ module _ (T : Tables) (K : Consistent T) where
       → TrainOk T 0 held′ t (moved T x) (way + x .speed) got
   unfolding movesIn movedIn released
   position-ok held held′ t x way got ok to from =
-      let on : isOn x ≡ true = lt-ltb 0 (x .route) (ok .onRoute .routeLow) in
-      cases (lt-or-le (x .position + x .speed) (ownLength T x))
-      (λ short.
-      let stays : leb (ownLength T x) (x .position + x .speed) ≡ false = lt-leb (ownLength T x) (x .position + x .speed) short in
-      rw (on, stays) (frame (further-ok held t x way got ok short) (λ s e. to s e (rw (on, stays))) (λ s e. from s e .0) (λ s e. e)))
-      (λ past.
-      let goes : leb (ownLength T x) (x .position + x .speed) ≡ true = le-leb (ownLength T x) (x .position + x .speed) past in
-      rw (on, goes)
-      (move-ok held t x way got ok held′ past (λ s e n. to s e (rw (on, goes) (ne-eqb (ownOf T x) s (λ q. n (sym q)))))
-      (λ s e. (from s e .0, λ q. not-both (eqb (ownOf T x) s) (eq-eqb (ownOf T x) s (sym q)) (rw (on, goes) at (from s e .1))))))
+      by-test (movesOn T x)
+      (λ goes.
+      let f = simp facts at goes in
+      rw goes
+      (move-ok held t x way got ok held′ (omega arith) (λ s e n. to s e (rw goes (ne-eqb (ownOf T x) s (λ q. n (sym q)))))
+      (λ s e. (from s e .0, λ q. not-both (eqb (ownOf T x) s) (eq-eqb (ownOf T x) s (sym q)) (rw goes at (from s e .1))))))
+      (λ stays.
+      let h = rw (lt-ltb 0 (x .route) (ok .onRoute .routeLow)) at stays in
+      let f = simp facts at h in
+      rw stays (frame (further-ok held t x way got ok (omega arith)) (λ s e. to s e (rw stays)) (λ s e. from s e .0) (λ s e. e)))
 
   -- ---- enter
   pub enter-ok :

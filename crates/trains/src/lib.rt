@@ -1,6 +1,6 @@
 // A train of an area by value, and where one stands. The tables' arrays are lent.
 ghost use mathlib.Core.Path.{_≡_};
-ghost use Rattle.trains.specs.Train.{off, entered, withSpeed, withAsking, trainAt, ownIn, nextIn, nearIn, holdsIn};
+ghost use Rattle.trains.specs.Train.{off, entered, withSpeed, withAsking, movedTo, trainAt, ownIn, nextIn, nearIn, holdsIn};
 ghost use Rattle.trains.specs.Spot.{spotIn};
 ghost use Rattle.trains.specs.Steps.{wantsIn};
 use lists::entry_u8;
@@ -76,6 +76,18 @@ pub fn with_asking(x: Train, asks: bool) -> Train
         position: x.position,
         speed: x.speed,
         asks,
+    }
+}
+
+pub fn moved_to(x: Train, place: u8, position: u32) -> Train
+    ensures { λ r. ⌜ r ≡ movedTo x place position ⌝ }
+{
+    Train {
+        route: x.route,
+        place,
+        position,
+        speed: x.speed,
+        asks: x.asks,
     }
 }
 

@@ -2,6 +2,7 @@
 //!
 //!     areas NAME          writes one file to standard output; `areas list` names them
 //!     areas verdicts      writes, for each file, its name and the line that `verdict` must print for it
+//!     areas entries       writes, for each file on which `area_a` is refused an entry, its name and the line that it must print
 //!
 //! Each file is Area A of document 01 with one thing changed, but for `full`, which has every segment and every route.
 use std::io::Write;
@@ -149,6 +150,17 @@ fn files() -> Vec<(&'static str, Vec<u8>, &'static str)> {
     vec![
         ("area_a", a.clone(), "0 0 done/segments 3 routes 2"),
         ("full", sealed(unsealed(&full())), "0 0 done/segments 62 routes 30"),
+        ("no_entry", planned(|p| p.rows[1].flags = 0), "0 0 done/segments 3 routes 2"),
+        ("one_entry", planned(|p| p.ways[1] = vec![1, 3]), "0 0 done/segments 3 routes 2"),
+        ("limit_249", planned(|p| p.rows[0].limit = 249), "0 0 done/segments 3 routes 2"),
+        (
+            "single_route",
+            planned(|p| {
+                p.routes = 1;
+                p.ways.truncate(1);
+            }),
+            "0 0 done/segments 3 routes 1",
+        ),
         ("empty", vec![], "1 0 size"),
         ("shorter", a[..2559].to_vec(), "1 0 size"),
         ("longer", longer, "1 0 size"),
@@ -214,12 +226,21 @@ fn files() -> Vec<(&'static str, Vec<u8>, &'static str)> {
     ]
 }
 
+/// The accepted files on which an entry of `area_a` is refused, with the line that it must print.
+const ENTRIES: [(&str, &str); 4] = [
+    ("no_entry", "enter of train 2: 17 0 no entry"),
+    ("one_entry", "enter of train 2: 18 0 taken"),
+    ("limit_249", "enter of train 1: 19 0 too fast"),
+    ("single_route", "enter of train 2: 16 0 route number"),
+];
+
 fn main() {
     let wanted = std::env::args().nth(1).unwrap_or_else(|| "list".into());
     let mut out = std::io::stdout().lock();
     match wanted.as_str() {
         "list" => files().iter().for_each(|(name, _, _)| writeln!(out, "{name}").unwrap()),
         "verdicts" => files().iter().for_each(|(name, _, says)| writeln!(out, "{name} {says}").unwrap()),
+        "entries" => ENTRIES.iter().for_each(|(name, says)| writeln!(out, "{name} {says}").unwrap()),
         _ => match files().into_iter().find(|(name, _, _)| *name == wanted) {
             Some((_, file, _)) => out.write_all(&file).unwrap(),
             None => {

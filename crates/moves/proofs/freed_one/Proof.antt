@@ -1,6 +1,6 @@
 use borrow.Author.Tests.{eq-eqb, ne-eqb}
-use Rattle.steps.proofs.freed_one.Statement.{statement}
-use Rattle.steps.proofs.freed_one.Tie as tie
+use Rattle.moves.proofs.freed_one.Statement.{statement}
+use Rattle.moves.proofs.freed_one.Tie as tie
 
 returns : tie.Need-returns
 returns c = rw (eq-eqb _ _ (c .if1 .taken))

@@ -4,8 +4,8 @@ use native.Mathlib.Omega.{arith}
 use lib.ListN.{length}
 use borrow.Author.Needs.{needs}
 use Rattle.lists.proofs.Numbered.{store-each, store-none}
-use Rattle.steps.proofs.taken_all.Statement.{statement}
-use Rattle.steps.proofs.taken_all.Tie as tie
+use Rattle.moves.proofs.taken_all.Statement.{statement}
+use Rattle.moves.proofs.taken_all.Tie as tie
 
 returns : tie.Need-returns
 returns c = sym (store-none _ _ _ (inl (omega arith)))

@@ -4,8 +4,8 @@ use native.Mathlib.Omega.{arith}
 use lib.ListN.{length}
 use borrow.Author.Needs.{needs}
 use Rattle.lists.proofs.Numbered.{store-each, store-none, long-of}
-use Rattle.steps.proofs.with_train.Statement.{statement}
-use Rattle.steps.proofs.with_train.Tie as tie
+use Rattle.moves.proofs.with_train.Statement.{statement}
+use Rattle.moves.proofs.with_train.Tie as tie
 
 returns : tie.Need-returns
 returns c = sym (store-none _ _ _ (inl (omega arith)))

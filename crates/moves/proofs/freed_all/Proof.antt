@@ -3,8 +3,8 @@ use native.Mathlib.Omega.{arith}
 use borrow.Author.Needs.{needs}
 use Rattle.trains.specs.Steps.{freedBy}
 use Rattle.lists.proofs.Loops.{Made, make-begin, make-more, make-over}
-use Rattle.steps.proofs.freed_all.Statement.{statement}
-use Rattle.steps.proofs.freed_all.Tie as tie
+use Rattle.moves.proofs.freed_all.Statement.{statement}
+use Rattle.moves.proofs.freed_all.Tie as tie
 
 abbrev Inv-loop : tie.InvT-loop
 Inv-loop t allocations new₀ i₀ new i = Made 62 (freedBy t) allocations allocations i new

@@ -1,0 +1,157 @@
+// What becomes of the trains and of the allocations at position, enter and leave. Tables come by value once per step; their arrays
+// are lent to the leaves.
+ghost use mathlib.Core.Path.{_≡_};
+ghost use Prim.Native.Nat.{ℕ, _+_};
+ghost use lib.Dec.{eqb};
+ghost use Rattle.lists.specs.Words.{if_then_else_, at, each};
+ghost use Rattle.trains.specs.Train.{trainAt, ownIn, ownOf};
+ghost use Rattle.trains.specs.Steps.{movesIn, movesOn, moved, movedIn, freed, takenBy, freedBy, becomes};
+ghost use Rattle.moves.specs.Room.{Room};
+use lists::entry_u8;
+use lists::entry_u32;
+use tables::Tables;
+use trains::Train;
+
+// ---- position
+// How far a train is from its segment's start once it has run a cycle at its speed.
+fn run_to(position: u32, speed: u16) -> u64
+    ensures { λ r. ⌜ r ≡ position + speed ⌝ }
+{
+    position as u64 + speed as u64
+}
+
+fn moves_on(length: u32, x: Train) -> bool
+    ensures { λ r. ⌜ r ≡ movesIn length x ⌝ }
+{
+    (0 < x.route) & ((length as u64) <= run_to(x.position, x.speed))
+}
+
+fn moved_train(length: u32, x: Train) -> Train
+    requires { ⌜ Room x ⌝ }
+    ensures { λ r. ⌜ r ≡ movedIn length x ⌝ }
+{
+    let to = run_to(x.position, x.speed);
+    if moves_on(length, x) {
+        return trains::moved_to(x, x.place + 1, (to - length as u64) as u32);
+    }
+    trains::moved_to(x, x.place, to as u32)
+}
+
+// A train off keeps its zeros: it has no segment, no position and no speed.
+pub fn moved_all(tables: Tables, trains: [Train; 24]) -> [Train; 24]
+    requires { ⌜ ((t : ℕ) → Room (trainAt trains t)) ⌝ }
+    ensures { λ r. ⌜ r ≡ each (λ t. moved tables) trains ⌝ }
+{
+    let mut new = trains;
+    let mut i: usize = 0;
+    while i < 24 {
+        let x = trains[i];
+        let own = trains::own_of(&tables.ways, x);
+        let length = entry_u32(&tables.lengths, own as usize);
+        new[i] = moved_train(length, x);
+        i += 1;
+    }
+    new
+}
+
+// The segment that a train frees: its own where it moves on, 0 where it does not.
+fn left_by<'a>(ways: &'a [u8; 960], lengths: &'a [u32; 62], x: Train) -> u8
+    ensures { λ r. ⌜ r ≡ (if movesIn (at (now (lengths .entry)) (ownIn (now (ways .entry)) x)) x then ownIn (now (ways .entry)) x else 0) ⌝ }
+{
+    let own = trains::own_of(ways, x);
+    let length = entry_u32(lengths, own as usize);
+    if moves_on(length, x) { own } else { 0 }
+}
+
+fn left_all(tables: Tables, trains: [Train; 24]) -> [u8; 24]
+    ensures { λ r. ⌜ r ≡ each (λ t x. if movesOn tables x then ownOf tables x else 0) trains ⌝ }
+{
+    let mut new = [0u8; 24];
+    let mut i: usize = 0;
+    while i < 24 {
+        let x = trains[i];
+        new[i] = left_by(&tables.ways, &tables.lengths, x);
+        i += 1;
+    }
+    new
+}
+
+fn released_one(left: &[u8; 24], s: u8, h: u8) -> u8
+    ensures { λ r. ⌜ r ≡ (if eqb (at (now (left .entry)) h) s then 0 else h) ⌝ }
+{
+    if entry_u8(left, h as usize) == s {
+        0
+    } else {
+        h
+    }
+}
+
+fn released_by(left: [u8; 24], allocations: [u8; 62]) -> [u8; 62]
+    ensures { λ r. ⌜ r ≡ each (λ s h. if eqb (at left h) s then 0 else h) allocations ⌝ }
+{
+    let mut new = allocations;
+    let mut i: usize = 0;
+    while i < 62 {
+        new[i] = released_one(&left, (i + 1) as u8, allocations[i]);
+        i += 1;
+    }
+    new
+}
+
+pub fn released_all(tables: Tables, trains: [Train; 24], allocations: [u8; 62]) -> [u8; 62]
+    ensures { λ r. ⌜ r ≡ each (freed tables trains) allocations ⌝ }
+{
+    released_by(left_all(tables, trains), allocations)
+}
+
+// ---- enter and leave
+// Segment s becomes allocated to train t.
+pub fn taken_all(allocations: [u8; 62], s: u8, t: u8) -> [u8; 62]
+    ensures { λ r. ⌜ r ≡ each (takenBy s t) allocations ⌝ }
+{
+    let mut new = allocations;
+    if s == 0 {
+        return new;
+    }
+    let i = s as usize - 1;
+    if 62 <= i {
+        return new;
+    }
+    new[i] = t;
+    new
+}
+
+fn freed_one(t: u8, h: u8) -> u8
+    ensures { λ r. ⌜ r ≡ (if eqb h t then 0 else h) ⌝ }
+{
+    if h == t { 0 } else { h }
+}
+
+// All that is allocated to train t is freed.
+pub fn freed_all(allocations: [u8; 62], t: u8) -> [u8; 62]
+    ensures { λ r. ⌜ r ≡ each (freedBy t) allocations ⌝ }
+{
+    let mut new = allocations;
+    let mut i: usize = 0;
+    while i < 62 {
+        new[i] = freed_one(t, allocations[i]);
+        i += 1;
+    }
+    new
+}
+
+// The train of number t becomes x.
+pub fn with_train(trains: [Train; 24], t: u8, x: Train) -> [Train; 24]
+    ensures { λ r. ⌜ r ≡ each (becomes t x) trains ⌝ }
+{
+    let mut new = trains;
+    if t == 0 {
+        return new;
+    }
+    let i = t as usize - 1;
+    if 24 <= i {
+        return new;
+    }
+    new[i] = x;
+    new
+}

@@ -1,0 +1,117 @@
+-- What load answers to Area A's file, whatever numbers and checks stand in the places that the edges change.
+use Prim.Native.Nat.{ℕ}
+use mathlib.Core.Path.{_≡_, refl, ap, _∙_}
+use mathlib.Core.Bool.{Bool, true, not, and-true}
+use mathlib.Core.List.{List, [], _∷_, _++_}
+use lib.ListN.{length, replicate}
+use Rattle.lists.specs.Words.{nth, every, least, tabulate, firstFailing}
+use Rattle.lists.specs.Tests.{Test, _⇒_, firstOf}
+use Rattle.lists.proofs.Loops.{every-at, least-same}
+use Rattle.braking.specs.Braking.{fallingSum, S}
+use Rattle.file.specs.Bytes.{half, word, zeros}
+use Rattle.file.specs.Blocks.{fileSize, block, sums, intact, kindOf, filed, firstDamaged, firstMisfiled}
+use Rattle.reading.specs.Decoding.{segmentBlock, lengthIn, limitIn, linkIn, flagsIn, wayIn, decoded}
+use Rattle.reading.specs.Verdict.{headerFiled, reserved, recordOk, atBlock, atNumber, verdict}
+use Rattle.tables.specs.declared.Tables.{Tables}
+use Rattle.tables.specs.Bounds.{mostSegments, mostRoutes}
+use Rattle.tables.specs.Tables.{linksTo, countOf, segmentAt}
+use Rattle.tables.specs.Rules.{headerIn, headerOk, marginOk, linksOk, usedOk, unusedOk, rowOk, segmentOk, matched, jointIn, jointOk, orderIn, orderOk, dropIn, dropOk, stepIn, countIn, routeIn, routeOk}
+use Rattle.area.specs.Answers.{answerOf}
+use Rattle.area.specs.Load.{loaded}
+use Rattle.rows.specs.AreaA.{two, four, header, segments, noSegments, routes, noRoutes, file}
+
+-- the tables of Area A
+unfoldable pub tablesOf : (d length2 limit3 : ℕ) → Tables
+tablesOf d length2 limit3 =
+    record {
+      segments = 3;
+      routes = 2;
+      gmax = 300;
+      braking = 10;
+      margin = d;
+      lengths = 6000 ∷ length2 ∷ 8000 ∷ replicate 59 0;
+      limits = 300 ∷ 290 ∷ limit3 ∷ replicate 59 0;
+      next = 3 ∷ 0 ∷ 3 ∷ replicate 121 0;
+      previous = 0 ∷ 0 ∷ 0 ∷ 0 ∷ 1 ∷ 2 ∷ replicate 118 0;
+      flags = 1 ∷ 1 ∷ 2 ∷ replicate 59 0;
+      ways = 2 ∷ 1 ∷ 3 ∷ replicate 29 0 ++ 2 ∷ 2 ∷ 3 ∷ replicate 925 0;
+    }
+
+-- the rules that an edge can break, by what each finds: the first damaged block, whether header and margin are met, the first
+-- broken record, the first segment that drops too much
+unfoldable pub left : (damaged : ℕ) (header margin : Bool) (broken dropping : ℕ) → Test
+left damaged header margin broken dropping =
+    firstOf (atBlock damaged 2 ∷ not header ⇒ 4 ∷ not margin ⇒ 5 ∷ atNumber broken 6 ∷ atNumber dropping 9 ∷ [])
+
+module _ (d length2 limit3 first0 second0 first1 second1 : ℕ) where
+  abbrev areaA : List ℕ
+  areaA = file (header d first0 second0) (segments length2 limit3 first1 second1)
+
+  -- where `bytes` unfolds, all its bytes are seen
+  bytes : List ℕ
+  unfolding file header segments noSegments routes noRoutes
+  bytes = areaA
+
+  blocks :
+      (block areaA 0 ≡ header d first0 second0) × (block areaA 1 ≡ segments length2 limit3 first1 second1)
+      × (block areaA 2 ≡ noSegments) × (block areaA 3 ≡ routes) × (block areaA 4 ≡ noRoutes)
+  unfolding bytes block
+  blocks = (refl, refl, refl, refl, refl)
+
+  -- its tables are those of Area A; a number that an edge changes is read back from its bytes
+  abbrev T : Tables
+  T = tablesOf (word (four d) 0) (word (four length2) 0) (half (two limit3) 0)
+
+  pub tables : decoded areaA ≡ T
+  unfolding decoded segmentBlock lengthIn limitIn linkIn flagsIn wayIn tabulate
+  tables = rw (blocks .0, blocks .1, blocks .2, blocks .3, blocks .4) (unfold bytes tablesOf in refl)
+
+  -- what no edge breaks: rules 1 and 3, of rule 4 the version and the zeros, of rule 6 the zeros, rules 7, 8 and 10
+  size : length areaA ≡ fileSize
+  unfolding bytes
+  size = refl
+
+  misfiled : firstMisfiled areaA ≡ 0
+  unfolding bytes block firstMisfiled filed kindOf zeros every least
+  misfiled = refl
+
+  headed : headerFiled areaA ≡ true
+  unfolding bytes block headerFiled zeros every
+  headed = refl
+
+  ended : every mostSegments (reserved areaA) ≡ true
+  unfolding bytes block segmentBlock reserved zeros every
+  ended = refl
+
+  records : firstFailing mostSegments (recordOk areaA T) ≡ firstFailing mostSegments (segmentOk T)
+  unfolding recordOk
+  records = least-same mostSegments _ _ (λ s low high. simp (every-at (reserved areaA) mostSegments ended s low high, and-true))
+
+  joints : firstFailing (T .segments) (jointOk T) ≡ 0
+  unfolding tablesOf jointIn matched linksTo nth least
+  joints = refl
+
+  orders : firstFailing (T .segments) (orderOk T) ≡ 0
+  unfolding tablesOf orderIn nth least
+  orders = refl
+
+  ways : firstFailing mostRoutes (routeOk T) ≡ 0
+  unfolding tablesOf routeIn countIn stepIn linksTo countOf segmentAt nth every least
+  ways = refl
+
+  -- so the other rules decide
+  abbrev others : Test
+  others = left (firstDamaged areaA) (headerOk T) (marginOk T) (firstFailing mostSegments (segmentOk T)) (firstFailing (T .segments) (dropOk T))
+
+  judged : verdict areaA ≡ others
+  unfolding verdict left
+  judged = simp (size, tables, misfiled, headed, records, joints, orders, ways)
+
+  -- where `found` unfolds, what they find computes
+  unfoldable pub found : Test
+  unfolding bytes tablesOf block firstDamaged intact sums headerIn S fallingSum rowOk usedOk linksOk unusedOk dropIn nth least
+  found = others
+
+  pub answered : (t : Test) → found ≡ t → loaded areaA .answer ≡ answerOf (t .number) (t .place)
+  unfolding loaded found
+  answered t e = ap (λ (u : Test). answerOf (u .number) (u .place)) (judged ∙ e)

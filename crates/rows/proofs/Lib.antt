@@ -1,0 +1,2 @@
+pub mod AreaA
+pub mod Rows

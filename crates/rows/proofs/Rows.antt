@@ -1,0 +1,63 @@
+-- The rows of the table hold: what load answers to the files and what the call position makes of the record, and the computed test.
+use mathlib.Core.Path.{_≡_, refl, ap}
+use mathlib.Core.Bool.{true, false}
+use Rattle.lists.specs.Words.{nth, each, every}
+use Rattle.braking.specs.Braking.{fallingSum, S, B}
+use Rattle.tables.specs.Tables.{countOf, segmentAt}
+use Rattle.tables.specs.Rules.{meets}
+use Rattle.tables.proofs.Consistency.{meets-iff}
+use Rattle.reading.specs.Decoding.{decoded}
+use Rattle.reading.proofs.View.{tables-meet}
+use Rattle.trains.specs.Train.{trainAt, ownIn, nextIn, nearIn, holdsIn}
+use Rattle.trains.specs.Steps.{wantsIn, movesIn, movedIn}
+use Rattle.trains.specs.Sound.{placeIn, runIn, brakingIn, askingIn, trainSound, allocationSound}
+use Rattle.area.specs.declared.Answer.the-variants.{Done, Refused}
+use Rattle.area.specs.declared.Area.{Area}
+use Rattle.area.specs.Answers.{answerOf, numberOf}
+use Rattle.area.specs.Load.{loaded}
+use Rattle.area.specs.Sound.{sound}
+use Rattle.area.specs.Calls.{afterPosition, positionCall}
+use Rattle.area.proofs.Loading.{done-iff}
+use Rattle.rows.specs.AreaA.{header, segments, file, headerA, segmentsA, moving}
+use Rattle.rows.specs.Table.{holds, allHold, table}
+use Rattle.rows.proofs.AreaA.{tablesOf, tables, left, found, answered}
+
+-- Area A's file as it is
+area-A : loaded (file headerA segmentsA) .answer ≡ Done
+unfolding found left answerOf
+area-A = answered 4650 5500 290 122 33 251 42 (left 0 true true 0 0) refl
+
+margin-4649 : loaded (file (header 4649 121 41) segmentsA) .answer ≡ Refused 5 0
+unfolding found left answerOf
+margin-4649 = answered 4649 5500 290 121 41 251 42 (left 0 true false 0 0) refl
+
+length-4950 : loaded (file headerA (segments 4950 290 211 174)) .answer ≡ Refused 6 2
+unfolding found left answerOf
+length-4950 = answered 4650 4950 290 122 33 211 174 (left 0 true true 2 0) refl
+
+length-4951 : loaded (file headerA (segments 4951 290 212 158)) .answer ≡ Done
+unfolding found left answerOf
+length-4951 = answered 4650 4951 290 122 33 212 158 (left 0 true true 0 0) refl
+
+limit-289 : loaded (file headerA (segments 5500 289 250 78)) .answer ≡ Refused 9 1
+unfolding found left answerOf
+limit-289 = answered 4650 5500 289 122 33 250 78 (left 0 true true 0 1) refl
+
+-- the record is sound: its tables are those of a file that passes
+tables-A : meets (decoded (file headerA segmentsA)) ≡ true
+tables-A = meets-iff _ .1 (tables-meet _ (done-iff _ .0 (ap numberOf area-A)))
+
+is-sound : sound moving ≡ true
+unfolding sound moving
+is-sound =
+    rw (tables-A, tables)
+    (unfold tablesOf every trainSound allocationSound placeIn brakingIn runIn askingIn ownIn nextIn nearIn holdsIn wantsIn countOf segmentAt nth S fallingSum B in refl)
+
+moved-on : trainAt (positionCall moving .area .trains) 1 ≡ record { route = 1; place = 2; position = 0; speed = 290; asks = false }
+unfolding positionCall afterPosition moving each nth
+moved-on = rw (is-sound, tables) (unfold tablesOf ownIn segmentAt movesIn movedIn in refl)
+
+-- THE CLAIM
+pub rows-hold : allHold table ≡ true
+unfolding allHold table holds
+rows-hold = rw (margin-4649, length-4950, length-4951, limit-289, moved-on) (unfold S B fallingSum in refl)

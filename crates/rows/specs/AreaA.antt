@@ -1,0 +1,72 @@
+-- Area A of document 01: its file, block by block, and a record of it. Bytes and numbers are in decimal.
+use Prim.Native.Nat.{ℕ, _/_, _%_}
+use mathlib.Core.Bool.{false}
+use mathlib.Core.List.{List, [], _∷_, _++_}
+use lib.ListN.{replicate}
+use Rattle.reading.specs.Decoding.{decoded}
+use Rattle.trains.specs.Train.{off}
+use Rattle.area.specs.declared.Area.{Area}
+use Rattle.area.specs.Calls.{positionDue}
+
+-- a number as two bytes and as four, the least first
+abbrev pub two : ℕ → List ℕ
+two n = n % 256 ∷ n / 256 ∷ []
+
+abbrev pub four : ℕ → List ℕ
+four n = two (n % 65536) ++ two (n / 65536)
+
+-- bytes 496 to 511 of a block: kind, block number, twelve zeros, the check
+abbrev pub tail : (kind number first second : ℕ) → List ℕ
+tail kind number first second = kind ∷ number ∷ replicate 12 0 ++ first ∷ second ∷ []
+
+-- block 0: version 1, 3 segments, 2 routes, a zero, `gmax` 300, `b` 10, `d`; the check is given
+unfoldable pub header : (d first second : ℕ) → List ℕ
+header d first second = 1 ∷ 3 ∷ 2 ∷ 0 ∷ [] ++ two 300 ++ two 10 ++ four d ++ replicate 484 0 ++ tail 1 0 first second
+
+-- a segment record
+abbrev pub segment : (length limit next1 next2 previous1 previous2 flags : ℕ) → List ℕ
+segment length limit next1 next2 previous1 previous2 flags =
+    four length ++ two limit ++ next1 ∷ next2 ∷ previous1 ∷ previous2 ∷ flags ∷ replicate 5 0
+
+-- block 1: segments 1, 2 and 3, and 28 records of zeros; the length of segment 2, the limit of segment 3 and the check are given
+unfoldable pub segments : (length2 limit3 first second : ℕ) → List ℕ
+segments length2 limit3 first second =
+    segment 6000 300 3 0 0 0 1
+    ++ segment length2 290 3 0 0 0 1
+    ++ segment 8000 limit3 0 0 1 2 2
+    ++ replicate 448 0
+    ++ tail 2 1 first second
+
+-- block 2: 31 records of zeros
+unfoldable pub noSegments : List ℕ
+noSegments = replicate 496 0 ++ tail 2 2 4 54
+
+-- block 3: routes 1-3 and 2-3, 32 bytes each, and 13 records and 16 bytes of zeros
+unfoldable pub routes : List ℕ
+routes = 2 ∷ 1 ∷ 3 ∷ replicate 29 0 ++ 2 ∷ 2 ∷ 3 ∷ replicate 29 0 ++ replicate 432 0 ++ tail 3 3 19 97
+
+-- block 4: 15 records and 16 bytes of zeros
+unfoldable pub noRoutes : List ℕ
+noRoutes = replicate 496 0 ++ tail 3 4 7 94
+
+-- the five blocks, of which an edge changes block 0 or block 1
+unfoldable pub file : (block0 block1 : List ℕ) → List ℕ
+file block0 block1 = block0 ++ block1 ++ noSegments ++ routes ++ noRoutes
+
+-- blocks 0 and 1 as Area A has them: `d` 4650, length of segment 2 5500, limit of segment 3 290
+abbrev pub headerA : List ℕ
+headerA = header 4650 122 33
+
+abbrev pub segmentsA : List ℕ
+segmentsA = segments 5500 290 251 42
+
+-- Area A with position due and train 1 in segment 1, which is 6000 long, where position + speed is 6000; segment 3, its next, is
+-- allocated to it too
+unfoldable pub moving : Area
+moving =
+    record {
+      tables = decoded (file headerA segmentsA);
+      allocations = 1 ∷ 0 ∷ 1 ∷ replicate 59 0;
+      trains = record { route = 1; place = 1; position = 5710; speed = 290; asks = false } ∷ replicate 23 off;
+      due = positionDue;
+    }

@@ -1,0 +1,105 @@
+use mathlib.Core.Path.{sym, _∙_}
+use borrow.Author.Needs.{needs}
+use borrow.Author.Tests.{ne-eqb}
+use Rattle.separation.specs.Calls.{called}
+use Rattle.runs.specs.Script.{callOf}
+use Rattle.runs.proofs.call.Statement.{statement}
+use Rattle.runs.proofs.call.Tie as tie
+
+word-at-requires : tie.Need-word-at-requires
+word-at-requires c κs = search needs
+
+word-at-requires-2 : tie.Need-word-at-requires-2
+word-at-requires-2 c κs = search needs
+
+word-at-requires-3 : tie.Need-word-at-requires-3
+word-at-requires-3 c κs = search needs
+
+word-at-requires-4 : tie.Need-word-at-requires-4
+word-at-requires-4 c κs = search needs
+
+enter-requires : tie.Need-enter-requires
+enter-requires c κs = search needs
+
+leave-requires : tie.Need-leave-requires
+leave-requires c κs = search needs
+
+wishes-of-requires : tie.Need-wishes-of-requires
+wishes-of-requires c κs = search needs
+
+speed-requires : tie.Need-speed-requires
+speed-requires c κs = search needs
+
+request-requires : tie.Need-request-requires
+request-requires c κs = search needs
+
+grant-requires : tie.Need-grant-requires
+grant-requires c κs = search needs
+
+position-requires : tie.Need-position-requires
+position-requires c κs = search needs
+
+returns : tie.Need-returns
+unfolding called callOf
+returns c =
+    let m = c .before .before .before in
+    let w = m .before .before in
+    simp (sym (w .word-at .ensures) ∙ m .match .keys1, c .enter .ensures, c .before .word-at4 .ensures, c .before .before .word-at3 .ensures, m .before .word-at2 .ensures)
+
+returns-2 : tie.Need-returns-2
+unfolding called callOf
+returns-2 c =
+    let m = c .before in
+    let w = m .before .before in
+    simp (sym (w .word-at .ensures) ∙ m .match .keys2, c .leave .ensures, m .before .word-at2 .ensures)
+
+returns-3 : tie.Need-returns-3
+unfolding called callOf
+returns-3 c =
+    let m = c .before .before in
+    let w = m .before .before in
+    simp (sym (w .word-at .ensures) ∙ m .match .keys3, c .speed .ensures, c .before .wishes-of .ensures)
+
+returns-4 : tie.Need-returns-4
+unfolding called callOf
+returns-4 c =
+    let m = c .before in
+    let w = m .before .before in
+    simp (sym (w .word-at .ensures) ∙ m .match .keys4, c .request .ensures)
+
+returns-5 : tie.Need-returns-5
+unfolding called callOf
+returns-5 c =
+    let m = c .before in
+    let w = m .before .before in
+    simp (sym (w .word-at .ensures) ∙ m .match .keys5, c .grant .ensures)
+
+returns-6 : tie.Need-returns-6
+unfolding called callOf
+returns-6 c =
+    let m = c .before in
+    let w = m .before .before in
+    let n = m .match .rest in
+    simp (sym (w .word-at .ensures), ne-eqb _ 5 (n .1), ne-eqb _ 4 (n .0 .1), ne-eqb _ 3 (n .0 .0 .1), ne-eqb _ 2 (n .0 .0 .0 .1), ne-eqb _ 1 (n .0 .0 .0 .0 .1), c .position .ensures)
+
+pub call-spec : {M : Type 1} → statement M
+call-spec =
+    tie.close
+    (tie.spec
+    word-at-requires
+    word-at-requires-2
+    word-at-requires-3
+    word-at-requires-4
+    enter-requires
+    leave-requires
+    wishes-of-requires
+    speed-requires
+    request-requires
+    grant-requires
+    position-requires
+    returns
+    returns-2
+    returns-3
+    returns-4
+    returns-5
+    returns-6)

@@ -1,0 +1,29 @@
+use Prim.Native.Nat.{ℕ, min}
+use mathlib.Core.Path.{_≡_, ap, _∙_}
+use mathlib.Core.List.{List}
+use native.Mathlib.Omega.{arith}
+use lib.ListN.{take, drop}
+use borrow.Author.Needs.{needs}
+use denote.Ref.{now}
+use Rattle.lists.proofs.Cases.{cases}
+use Rattle.runs.specs.Script.{wordOf, wishesOf}
+use Rattle.runs.proofs.wishes_of.Statement.{statement}
+use Rattle.runs.proofs.wishes_of.Tie as tie
+
+word-at-requires : tie.Need-word-at-requires
+word-at-requires c κs = search needs
+
+part-requires : tie.Need-part-requires
+part-requires c κs = search needs
+
+returns : tie.Need-returns
+unfolding wishesOf
+returns c =
+    let j = c .before .before in
+    let words : List ℕ = now (j .before .before .before .args .words) in
+    let said = j .before .word-at .ensures in
+    let count : j .if1 .count ≡ min (wordOf words 6) 25 = cases (j .if1 .came) (λ w. omega (arith, w .0 .taken, w .1, said)) (λ w. omega (arith, w .0 .left, w .1, said)) in
+    c .part .ensures ∙ ap (λ (k : ℕ). take k (drop 7 words)) count
+
+pub wishes-of-spec : {M : Type 1} → statement M
+wishes-of-spec = tie.close (tie.spec word-at-requires part-requires returns)
