@@ -12,7 +12,6 @@ use Rattle.trains.specs.Train.{trainAt, ownIn, nextIn, nearIn, holdsIn}
 use Rattle.trains.specs.Steps.{wantsIn, movesIn, movedIn}
 use Rattle.trains.specs.Sound.{placeIn, runIn, brakingIn, askingIn, trainSound, allocationSound}
 use Rattle.area.specs.declared.Answer.the-variants.{Done, Refused}
-use Rattle.area.specs.declared.Area.{Area}
 use Rattle.area.specs.Answers.{answerOf, numberOf}
 use Rattle.area.specs.Load.{loaded}
 use Rattle.area.specs.Sound.{sound}
@@ -22,7 +21,7 @@ use Rattle.rows.specs.AreaA.{header, segments, file, headerA, segmentsA,
 use Rattle.rows.specs.Table.{holds, allHold, table}
 use Rattle.rows.proofs.AreaA.{tablesOf, tables, left, found, answered}
 
--- Area A's file as it is
+-- Area A's file passes; with an edge's change, the rule that the edge breaks answers
 area-A : loaded (file headerA segmentsA) .answer ≡ Done
 unfolding found left answerOf
 area-A = answered 4650 5500 290 122 33 251 42 (left 0 true true 0 0) refl
@@ -60,4 +59,4 @@ moved-on = rw (is-sound, tables) (unfold tablesOf ownIn segmentAt movesIn movedI
 -- THE CLAIM
 pub rows-hold : allHold table ≡ true
 unfolding allHold table holds
-rows-hold = rw (margin-4649, length-4950, length-4951, limit-289, moved-on) (unfold S B fallingSum in refl)
+rows-hold = rw (moved-on, limit-289, length-4951, length-4950, margin-4649) (unfold S B fallingSum in refl)

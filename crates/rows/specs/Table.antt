@@ -19,8 +19,10 @@ pub data Row : Type 0 where
   Load : (bytes : List ℕ) (number place : ℕ) → Row
   -- after the call position on this record, the train has this place and position
   Move : (before : Area) (train place position : ℕ) → Row
+  -- an edge in two halves
   Both : Row → Row → Row
 
+-- the test of one row
 unfoldable pub holds : Row → Bool
 holds (ValueS b v way) = eqb (S b v) way
 holds (ValueB b v way) = eqb (B b v) way
@@ -30,10 +32,12 @@ holds (Move before train place position) =
     && eqb (trainAt (positionCall before .area .trains) train .position) position
 holds (Both x y) = holds x && holds y
 
+-- the test of all rows
 unfoldable pub allHold : List Row → Bool
 allHold [] = true
 allHold (x ∷ rows) = holds x && allHold rows
 
+-- the seven values of S, the value of B and the four edges
 unfoldable pub table : List Row
 table =
     ValueS 10 5 5
