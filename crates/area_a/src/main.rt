@@ -16,22 +16,17 @@ fn refused(call: &[u8], answer: Answer) -> bool {
     true
 }
 
-fn say_number(number: u64) {
-    io::write_all(STDOUT_FILENO, b" ");
-    io::print_decimal(STDOUT_FILENO, number);
-}
-
 // The listing's line for a train.
 fn list_train(cycle: u8, area: Area, train: u8) {
     let tables = area.tables;
     let trains = area.trains;
     let x = trains::train_at(trains, train);
     let segment = trains::own_of(&tables.ways, x);
-    io::print_decimal(STDOUT_FILENO, cycle as u64);
-    say_number(train as u64);
-    say_number(segment as u64);
-    say_number(x.position as u64);
-    say_number(x.speed as u64);
+    console::say_number(b"", cycle as u64);
+    console::say_number(b" ", train as u64);
+    console::say_number(b" ", segment as u64);
+    console::say_number(b" ", x.position as u64);
+    console::say_number(b" ", x.speed as u64);
     io::write_all(STDOUT_FILENO, b"\n");
 }
 

@@ -1,4 +1,4 @@
-// What the programs read and print: all of standard input, and an answer with document 01's word for it.
+// What the programs read and print: all of standard input, a number after a text, and an answer with document 01's word for it.
 ghost use Rattle.io.specs.Counts.{Counts};
 use area::Answer;
 use libc::STDIN_FILENO;
@@ -69,18 +69,28 @@ fn say_word(number: u8) {
     ;
 }
 
-fn say(number: u8, place: u16) {
-    io::print_decimal(STDOUT_FILENO, number as u64);
-    io::write_all(STDOUT_FILENO, b" ");
-    io::print_decimal(STDOUT_FILENO, place as u64);
-    io::write_all(STDOUT_FILENO, b" ");
-    say_word(number);
+// A text and a number after it.
+pub fn say_number(text: &[u8], number: u64) {
+    io::write_all(STDOUT_FILENO, text);
+    io::print_decimal(STDOUT_FILENO, number);
 }
 
-// A line with the answer's number, its place and its word.
-pub fn say_answer(answer: Answer) {
+fn say(number: u8, place: u16) {
+    say_number(b"", number as u64);
+    say_number(b" ", place as u64);
+}
+
+// The answer's number and its place, with no line's end.
+pub fn say_place(answer: Answer) {
     match answer {
         Answer::Done => say(0, 0),
         Answer::Refused { number, place } => say(number, place),
     }
+}
+
+// A line with the answer's number, its place and its word.
+pub fn say_answer(answer: Answer) {
+    say_place(answer);
+    io::write_all(STDOUT_FILENO, b" ");
+    say_word(area::number_of(answer));
 }

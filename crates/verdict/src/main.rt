@@ -3,10 +3,8 @@
 use libc::STDOUT_FILENO;
 
 fn say_counts(segments: u8, routes: u8) {
-    io::write_all(STDOUT_FILENO, b"segments ");
-    io::print_decimal(STDOUT_FILENO, segments as u64);
-    io::write_all(STDOUT_FILENO, b" routes ");
-    io::print_decimal(STDOUT_FILENO, routes as u64);
+    console::say_number(b"segments ", segments as u64);
+    console::say_number(b" routes ", routes as u64);
     io::write_all(STDOUT_FILENO, b"\n");
 }
 

@@ -5,167 +5,63 @@
 //!     areas entries       writes, for each file on which `area_a` is refused an entry, its name and the line that it must print
 //!
 //! Each file is Area A of document 01 with one thing changed, but for `full`, which has every segment and every route.
+use reference::{area_a, full_area, put_checks, Description};
 use std::io::Write;
 
-#[derive(Clone)]
-struct Segment {
-    length: u32,
-    limit: u16,
-    next: [u8; 2],
-    previous: [u8; 2],
-    flags: u8,
-}
-
-#[derive(Clone)]
-struct Plan {
-    segments: u8,
-    routes: u8,
-    gmax: u16,
-    braking: u16,
-    margin: u32,
-    rows: Vec<Segment>,
-    ways: Vec<Vec<u8>>,
-}
-
-fn segment(length: u32, limit: u16, next: [u8; 2], previous: [u8; 2], flags: u8) -> Segment {
-    Segment { length, limit, next, previous, flags }
-}
-
-fn area_a() -> Plan {
-    Plan {
-        segments: 3,
-        routes: 2,
-        gmax: 300,
-        braking: 10,
-        margin: 4650,
-        rows: vec![
-            segment(6000, 300, [3, 0], [0, 0], 1),
-            segment(5500, 290, [3, 0], [0, 0], 1),
-            segment(8000, 290, [0, 0], [1, 2], 2),
-        ],
-        ways: vec![vec![1, 3], vec![2, 3]],
-    }
-}
-
-/// A chain of all 62 segments and 30 routes of 31 segments, one after the other along it.
-fn full() -> Plan {
-    let chain = |s: u8| {
-        let next = if s < 62 { s + 1 } else { 0 };
-        segment(6000 + s as u32, 300, [next, 0], [s - 1, 0], 3)
-    };
-    Plan {
-        segments: 62,
-        routes: 30,
-        gmax: 300,
-        braking: 10,
-        margin: 4650,
-        rows: (1..=62).map(chain).collect(),
-        ways: (1..=30).map(|r| (r..r + 31).collect()).collect(),
-    }
-}
-
-/// The file of a plan, without its checks.
-fn unsealed(plan: &Plan) -> Vec<u8> {
-    let mut file = vec![0u8; 2560];
-    file[0] = 1;
-    file[1] = plan.segments;
-    file[2] = plan.routes;
-    file[4..6].copy_from_slice(&plan.gmax.to_le_bytes());
-    file[6..8].copy_from_slice(&plan.braking.to_le_bytes());
-    file[8..12].copy_from_slice(&plan.margin.to_le_bytes());
-    for (i, row) in plan.rows.iter().enumerate() {
-        let at = 512 * (1 + i / 31) + 16 * (i % 31);
-        file[at..at + 4].copy_from_slice(&row.length.to_le_bytes());
-        file[at + 4..at + 6].copy_from_slice(&row.limit.to_le_bytes());
-        file[at + 6..at + 8].copy_from_slice(&row.next);
-        file[at + 8..at + 10].copy_from_slice(&row.previous);
-        file[at + 10] = row.flags;
-    }
-    for (i, way) in plan.ways.iter().enumerate() {
-        let at = 512 * (3 + i / 15) + 32 * (i % 15);
-        file[at] = way.len() as u8;
-        file[at + 1..at + 1 + way.len()].copy_from_slice(way);
-    }
-    for (k, kind) in [1, 2, 2, 3, 3].into_iter().enumerate() {
-        file[512 * k + 496] = kind;
-        file[512 * k + 497] = k as u8;
-    }
-    file
+fn planned(change: impl Fn(&mut Description)) -> Vec<u8> {
+    let mut plan = area_a();
+    change(&mut plan);
+    plan.file()
 }
 
 /// The file with the check of each block set right.
 fn sealed(mut file: Vec<u8>) -> Vec<u8> {
-    for block in file.chunks_mut(512) {
-        let (mut first, mut second) = (0u32, 0u32);
-        for byte in &block[..510] {
-            first = (first + *byte as u32) % 255;
-            second = (second + first) % 255;
-        }
-        block[510] = first as u8;
-        block[511] = second as u8;
-    }
+    put_checks(&mut file);
     file
-}
-
-fn planned(change: impl Fn(&mut Plan)) -> Vec<u8> {
-    let mut plan = area_a();
-    change(&mut plan);
-    sealed(unsealed(&plan))
 }
 
 /// Area A with one byte changed and the checks set right.
 fn patched(at: usize, byte: u8) -> Vec<u8> {
-    let mut file = unsealed(&area_a());
-    file[at] = byte;
-    sealed(file)
+    sealed(damaged(at, byte))
 }
 
 /// Area A with one byte changed after the checks were set.
 fn damaged(at: usize, byte: u8) -> Vec<u8> {
-    let mut file = sealed(unsealed(&area_a()));
+    let mut file = area_a().file();
     file[at] = byte;
     file
 }
 
 /// Every file, with what `verdict` must print for it.
 fn files() -> Vec<(&'static str, Vec<u8>, &'static str)> {
-    let a = sealed(unsealed(&area_a()));
+    let a = area_a().file();
     let mut longer = a.clone();
     longer.push(0);
     let mut two_wrong = patched(496, 9);
     two_wrong[2048 + 510] ^= 1;
-    let mut zero_then_length = unsealed(&area_a());
+    let mut zero_then_length = area_a().file();
     zero_then_length[512 + 11] = 1;
     zero_then_length[512 + 16..512 + 20].copy_from_slice(&4950u32.to_le_bytes());
-    let mut length_then_zero = unsealed(&area_a());
+    let mut length_then_zero = area_a().file();
     length_then_zero[512..516].copy_from_slice(&4950u32.to_le_bytes());
     length_then_zero[512 + 16 + 11] = 1;
-    // the second sum of a block of zeros but for its tail is 0 or 255 away from what is stored
-    let mut stored_255 = a.clone();
-    for block in stored_255.chunks_mut(512) {
-        if block[510] == 0 {
-            block[510] = 255;
-        }
-    }
+    // a block whose first sum comes to 255, which is 0, and is stored as 255
+    let mut stored_255 = patched(1024 + 100, 251);
+    assert_eq!(stored_255[1024 + 510], 0);
+    stored_255[1024 + 510] = 255;
     vec![
         ("area_a", a.clone(), "0 0 done/segments 3 routes 2"),
-        ("full", sealed(unsealed(&full())), "0 0 done/segments 62 routes 30"),
-        ("no_entry", planned(|p| p.rows[1].flags = 0), "0 0 done/segments 3 routes 2"),
-        ("one_entry", planned(|p| p.ways[1] = vec![1, 3]), "0 0 done/segments 3 routes 2"),
-        ("limit_249", planned(|p| p.rows[0].limit = 249), "0 0 done/segments 3 routes 2"),
-        (
-            "single_route",
-            planned(|p| {
-                p.routes = 1;
-                p.ways.truncate(1);
-            }),
-            "0 0 done/segments 3 routes 1",
-        ),
+        ("full", full_area().file(), "0 0 done/segments 62 routes 30"),
+        ("no_entry", planned(|p| p.segments[1].flags = 0), "0 0 done/segments 3 routes 2"),
+        ("one_entry", planned(|p| p.routes[1] = vec![1, 3]), "0 0 done/segments 3 routes 2"),
+        ("limit_249", planned(|p| p.segments[0].limit = 249), "0 0 done/segments 3 routes 2"),
+        ("single_route", planned(|p| p.routes.truncate(1)), "0 0 done/segments 3 routes 1"),
         ("empty", vec![], "1 0 size"),
         ("shorter", a[..2559].to_vec(), "1 0 size"),
         ("longer", longer, "1 0 size"),
         ("byte_600", damaged(600, 1), "2 1 damaged"),
         ("second_sum", damaged(511, a[511] ^ 1), "2 0 damaged"),
+        ("check_stored_as_255", stored_255, "2 2 damaged"),
         ("kind_and_check", two_wrong, "2 4 damaged"),
         ("kind", patched(496, 9), "3 0 misfiled"),
         ("block_number", patched(2048 + 497, 3), "3 4 misfiled"),
@@ -174,53 +70,53 @@ fn files() -> Vec<(&'static str, Vec<u8>, &'static str)> {
         ("version", patched(0, 2), "4 0 header"),
         ("header_byte_3", patched(3, 1), "4 0 header"),
         ("header_zero", patched(495, 1), "4 0 header"),
-        ("no_segments", planned(|p| p.segments = 0), "4 0 header"),
-        ("segments_63", planned(|p| p.segments = 63), "4 0 header"),
-        ("no_routes", planned(|p| p.routes = 0), "4 0 header"),
-        ("routes_31", planned(|p| p.routes = 31), "4 0 header"),
+        ("no_segments", patched(1, 0), "4 0 header"),
+        ("segments_63", patched(1, 63), "4 0 header"),
+        ("no_routes", patched(2, 0), "4 0 header"),
+        ("routes_31", patched(2, 31), "4 0 header"),
         ("gmax_1001", planned(|p| p.gmax = 1001), "4 0 header"),
-        ("no_braking", planned(|p| p.braking = 0), "4 0 header"),
-        ("braking_301", planned(|p| p.braking = 301), "4 0 header"),
-        ("margin_1000001", planned(|p| p.margin = 1_000_001), "4 0 header"),
-        ("margin_4649", planned(|p| p.margin = 4649), "5 0 margin"),
-        ("two_segments", planned(|p| p.segments = 2), "6 1 segment"),
-        ("length_4950", planned(|p| p.rows[1].length = 4950), "6 2 segment"),
-        ("length_4951", planned(|p| p.rows[1].length = 4951), "0 0 done/segments 3 routes 2"),
-        ("length_1000000", planned(|p| p.rows[2].length = 1_000_000), "0 0 done/segments 3 routes 2"),
-        ("length_1000001", planned(|p| p.rows[2].length = 1_000_001), "6 3 segment"),
-        ("limit_0", planned(|p| p.rows[0].limit = 0), "6 1 segment"),
-        ("limit_301", planned(|p| p.rows[0].limit = 301), "6 1 segment"),
-        ("link_4", planned(|p| p.rows[2].next = [4, 0]), "6 3 segment"),
-        ("same_links", planned(|p| p.rows[2].previous = [1, 1]), "6 3 segment"),
-        ("second_link_alone", planned(|p| p.rows[2].previous = [0, 2]), "6 3 segment"),
-        ("flags_4", planned(|p| p.rows[2].flags = 4), "6 3 segment"),
+        ("no_braking", planned(|p| p.b = 0), "4 0 header"),
+        ("braking_301", planned(|p| p.b = 301), "4 0 header"),
+        ("margin_1000001", planned(|p| p.d = 1_000_001), "4 0 header"),
+        ("margin_4649", planned(|p| p.d = 4649), "5 0 margin"),
+        ("two_segments", patched(1, 2), "6 1 segment"),
+        ("length_4950", planned(|p| p.segments[1].length = 4950), "6 2 segment"),
+        ("length_4951", planned(|p| p.segments[1].length = 4951), "0 0 done/segments 3 routes 2"),
+        ("length_1000000", planned(|p| p.segments[2].length = 1_000_000), "0 0 done/segments 3 routes 2"),
+        ("length_1000001", planned(|p| p.segments[2].length = 1_000_001), "6 3 segment"),
+        ("limit_0", planned(|p| p.segments[0].limit = 0), "6 1 segment"),
+        ("limit_301", planned(|p| p.segments[0].limit = 301), "6 1 segment"),
+        ("link_4", planned(|p| p.segments[2].next = [4, 0]), "6 3 segment"),
+        ("same_links", planned(|p| p.segments[2].previous = [1, 1]), "6 3 segment"),
+        ("second_link_alone", planned(|p| p.segments[2].previous = [0, 2]), "6 3 segment"),
+        ("flags_4", planned(|p| p.segments[2].flags = 4), "6 3 segment"),
         ("record_62", patched(1024 + 16 * 30 + 10, 1), "6 62 segment"),
         ("zero_then_length", sealed(zero_then_length), "6 1 segment"),
         ("length_then_zero", sealed(length_then_zero), "6 1 segment"),
-        ("previous_missing", planned(|p| p.rows[2].previous = [2, 0]), "7 1 joint"),
-        ("next_missing", planned(|p| p.rows[1].next = [0, 0]), "7 3 joint"),
+        ("previous_missing", planned(|p| p.segments[2].previous = [2, 0]), "7 1 joint"),
+        ("next_missing", planned(|p| p.segments[1].next = [0, 0]), "7 3 joint"),
         (
             "back_link",
             planned(|p| {
-                p.rows[2].next = [1, 0];
-                p.rows[0].previous = [3, 0];
+                p.segments[2].next = [1, 0];
+                p.segments[0].previous = [3, 0];
             }),
             "8 3 order",
         ),
         (
             "own_link",
             planned(|p| {
-                p.rows[0].next = [3, 1];
-                p.rows[0].previous = [1, 0];
+                p.segments[0].next = [3, 1];
+                p.segments[0].previous = [1, 0];
             }),
             "8 1 order",
         ),
-        ("limit_289", planned(|p| p.rows[2].limit = 289), "9 1 drop"),
-        ("one_route", planned(|p| p.routes = 1), "10 2 route"),
-        ("route_backwards", planned(|p| p.ways[1] = vec![3, 2]), "10 2 route"),
-        ("route_number_4", planned(|p| p.ways[1] = vec![2, 4]), "10 2 route"),
-        ("route_number_0", planned(|p| p.ways[0] = vec![0, 3]), "10 1 route"),
-        ("route_count_0", planned(|p| p.ways[1] = vec![]), "10 2 route"),
+        ("limit_289", planned(|p| p.segments[2].limit = 289), "9 1 drop"),
+        ("one_route", patched(2, 1), "10 2 route"),
+        ("route_backwards", planned(|p| p.routes[1] = vec![3, 2]), "10 2 route"),
+        ("route_number_4", planned(|p| p.routes[1] = vec![2, 4]), "10 2 route"),
+        ("route_number_0", planned(|p| p.routes[0] = vec![0, 3]), "10 1 route"),
+        ("route_count_0", planned(|p| p.routes[1] = vec![]), "10 2 route"),
         ("route_count_32", patched(1536, 32), "10 1 route"),
         ("route_30_last_byte", patched(2048 + 32 * 14 + 31, 1), "10 30 route"),
     ]

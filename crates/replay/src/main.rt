@@ -1,0 +1,206 @@
+// The bench tool: reads an area file and after it a script of calls from standard input, runs them, and prints the answer to each
+// and the state that they come to. An input that it cannot take whole is refused before anything is run.
+ghost use mathlib.Core.Path.{_≡_};
+ghost use Prim.Native.Nat.{_+_, _/_};
+ghost use lib.ListN.{length, take, drop};
+ghost use Rattle.lists.specs.Words.{tabulate, firstFailing};
+ghost use Rattle.file.specs.Blocks.{fileSize};
+ghost use Rattle.replay.specs.Input.{wordIn, kindKnown};
+use area::Area;
+use libc::STDERR_FILENO;
+use libc::STDOUT_FILENO;
+use trains::Train;
+
+// Calls, and the words and bytes that spell them: 32 and 64 a call.
+const MOST_CALLS: usize = 10000;
+
+const MOST_WORDS: usize = 320000;
+
+const MOST_BYTES: usize = 640000;
+
+// Room for a file, the longest script and one byte more, so that a longer input is seen to be longer.
+const INPUT_ROOM: usize = 642561;
+
+// ---- what the input holds
+fn file_in(input: &[u8]) -> &[u8]
+    ensures { λ r. ⌜ now r ≡ take fileSize (now (input .entry)) ⌝ }
+{
+    let n = input.len();
+    if n < file::FILE_SIZE {
+        return &input[0..n];
+    }
+    &input[0..file::FILE_SIZE]
+}
+
+fn script_in(input: &[u8]) -> &[u8]
+    ensures { λ r. ⌜ now r ≡ drop fileSize (now (input .entry)) ⌝ }
+{
+    let n = input.len();
+    if n < file::FILE_SIZE {
+        return &input[n..n];
+    }
+    &input[file::FILE_SIZE..n]
+}
+
+// Word i + 1 of a script.
+fn word_in(script: &[u8], i: u32) -> u16
+    ensures { λ r. ⌜ r ≡ wordIn (now (script .entry)) (i + 1) ⌝ }
+{
+    let at = 2 * (i as usize);
+    let low = file::byte(script, at);
+    let high = file::byte(script, at + 1);
+    (low as u16) + 256 * (high as u16)
+}
+
+// The words of a script, and zeros after them.
+fn words_of(script: &[u8]) -> [u16; MOST_WORDS]
+    ensures { λ r. ⌜ r ≡ tabulate 320000 (wordIn (now (script .entry))) ⌝ }
+{
+    let mut words = [0u16; MOST_WORDS];
+    for i in 0..MOST_WORDS {
+        words[i] = word_in(script, i as u32);
+    }
+    words
+}
+
+// The first record that is of none of the six kinds, counted from 1; 0 where there is none.
+fn first_unknown(words: &[u16]) -> usize
+    ensures { λ r. ⌜ r ≡ firstFailing (length (now (words .entry)) / 32) (kindKnown (now (words .entry))) ⌝ }
+{
+    let records = words.len() / 32;
+    for k in 0..records {
+        let kind = lists::entry_u16(words, 32 * k + 1);
+        if !((1 <= kind) & (kind <= 6)) {
+            return k + 1;
+        }
+    }
+    0
+}
+
+// ---- what is printed of a state
+fn say_train(trains: [Train; 24], t: u8) {
+    let x = trains::train_at(trains, t);
+    if x.route == 0 {
+        return;
+    }
+    let asks = if x.asks { 1 } else { 0 };
+    console::say_number(b"train ", t as u64);
+    console::say_number(b" route ", x.route as u64);
+    console::say_number(b" place ", x.place as u64);
+    console::say_number(b" position ", x.position as u64);
+    console::say_number(b" speed ", x.speed as u64);
+    console::say_number(b" asks ", asks);
+    io::write_all(STDOUT_FILENO, b"\n");
+}
+
+fn say_allocation(allocations: &[u8], s: usize) {
+    let t = lists::entry_u8(allocations, s);
+    if t == 0 {
+        return;
+    }
+    console::say_number(b"allocation ", s as u64);
+    console::say_number(b" ", t as u64);
+    io::write_all(STDOUT_FILENO, b"\n");
+}
+
+fn say_trains(trains: [Train; 24]) {
+    for t in 1..25 {
+        say_train(trains, t);
+    }
+}
+
+fn say_allocations(allocations: &[u8]) {
+    for s in 1..63 {
+        say_allocation(allocations, s);
+    }
+}
+
+fn say_state(area: Area) {
+    console::say_number(b"due ", area.due as u64);
+    io::write_all(STDOUT_FILENO, b"\n");
+    let trains = area.trains;
+    say_trains(trains);
+    let allocations = area.allocations;
+    say_allocations(&allocations);
+    let report = area.report();
+    console::say_number(b"report ", report.allocated as u64);
+    console::say_number(b" ", report.free as u64);
+    io::write_all(STDOUT_FILENO, b"\n");
+}
+
+fn say_answer(answers: &[u8], k: usize) {
+    let number = file::byte(answers, k);
+    console::say_number(b"", number as u64);
+    io::write_all(STDOUT_FILENO, b"\n");
+}
+
+fn say_answers(answers: &[u8], calls: usize) {
+    for k in 0..calls {
+        say_answer(answers, k);
+    }
+}
+
+// ---- refusals of the input
+fn refuse(text: &[u8]) {
+    io::write_all(STDERR_FILENO, b"replay: ");
+    io::write_all(STDERR_FILENO, text);
+}
+
+// Whether a record is of none of the six kinds; if so, says which.
+fn refuse_unknown(words: &[u16]) -> bool {
+    let record = first_unknown(words);
+    if record == 0 {
+        return false;
+    }
+    let kind = lists::entry_u16(words, 32 * (record - 1) + 1);
+    refuse(b"call ");
+    io::print_decimal(STDERR_FILENO, record as u64);
+    io::write_all(STDERR_FILENO, b" of the script is of kind ");
+    io::print_decimal(STDERR_FILENO, kind as u64);
+    io::write_all(STDERR_FILENO, b"; kinds are 1 to 6\n");
+    true
+}
+
+fn run(file: &[u8], words: &[u16]) {
+    let mut answers = [0u8; MOST_CALLS];
+    let ran = runs::run_file(file, words, &mut answers);
+    let answer = ran.answer;
+    io::write_all(STDOUT_FILENO, b"load ");
+    console::say_place(answer);
+    io::write_all(STDOUT_FILENO, b"\n");
+    if area::number_of(answer) != 0 {
+        return;
+    }
+    say_answers(&answers, ran.calls);
+    say_state(ran.area);
+}
+
+fn replay(input: &[u8]) {
+    let script = script_in(input);
+    let n = script.len();
+    if MOST_BYTES < n {
+        refuse(b"the script is longer than 10000 calls\n");
+        return;
+    }
+    if n % 64 != 0 {
+        refuse(b"the script does not end with a whole record of 64 bytes\n");
+        return;
+    }
+    let words = words_of(script);
+    let calls = &words[0..n / 2];
+    if refuse_unknown(calls) {
+        return;
+    }
+    run(file_in(input), calls);
+}
+
+fn main() {
+    let mut buffer = [0u8; INPUT_ROOM];
+    let input = console::read_input(&mut buffer);
+    if input.failed {
+        refuse(b"the input could not be read\n");
+        return;
+    }
+    let n = input.count;
+    replay(&buffer[..n]);
+}

@@ -1,0 +1,337 @@
+//! The calls.
+//!
+//! In a running area a train keeps one number for where it is: its way since its enter. Its
+//! place in the route and its position are worked out from the way and the summed lengths.
+
+use crate::file::{read, Refusal};
+use crate::record::{sound, RawTrain, Record, GRANT, POSITION, REQUEST, SPEED};
+use crate::tables::{Tables, ENTRY, EXIT};
+
+/// A train on the area.
+#[derive(Clone, Copy, PartialEq, Eq, Debug)]
+struct Train {
+    route: u8,
+    way: u64,
+    speed: u16,
+    asks: bool,
+}
+
+/// What follows from a train's way: its place in the route (from 1), its position, its own
+/// segment, and its "next", "the route's next segment, if any".
+struct Spot {
+    place: u8,
+    position: u32,
+    own: u8,
+    next: Option<u8>,
+}
+
+/// "Its own segment is the one of its route that starts at or before its way and ends beyond
+/// it, lengths summed from the route's start. .. Its position is its way less that segment's
+/// start." None if the way is beyond the route's end, which no sound area has.
+fn spot(tables: &Tables, train: &Train) -> Option<Spot> {
+    let listed = tables.route(train.route).listed();
+    let mut start = 0;
+    for (index, &own) in listed.iter().enumerate() {
+        let end = start + u64::from(tables.segment(own).length);
+        if train.way < end {
+            let position = (train.way - start) as u32;
+            return Some(Spot { place: index as u8 + 1, position, own, next: listed.get(index + 1).copied() });
+        }
+        start = end;
+    }
+    None
+}
+
+/// A running area.
+#[derive(Clone, Copy, PartialEq, Eq, Debug)]
+pub struct Area {
+    tables: Tables,
+    allocations: [u8; 62],
+    trains: [Option<Train>; 24],
+    due: u8,
+}
+
+/// One of the six calls with its arguments.
+#[derive(Clone, Copy, PartialEq, Eq, Debug)]
+pub enum Call<'a> {
+    Enter { train: u16, route: u16, speed: u16 },
+    Leave { train: u16 },
+    Speed { wishes: &'a [u16] },
+    Request,
+    Grant,
+    Position,
+}
+
+/// Load: an area without trains, speed due; or the refusal, 1 to 10, with its place.
+pub fn load(file: &[u8]) -> Result<Area, Refusal> {
+    let tables = read(file)?;
+    Ok(Area { tables, allocations: [0; 62], trains: [None; 24], due: SPEED })
+}
+
+/// One call on any record: the answer's number and the record handed back.
+pub fn call_on(record: &Record, call: &Call) -> (u8, Record) {
+    match Area::from_record(record) {
+        // "other refusals give the record as handed in"
+        None => (11, *record),
+        Some(mut area) => (area.call(call), area.record()),
+    }
+}
+
+/// Report on any record.
+pub fn report_on(record: &Record) -> (u8, u32, u32) {
+    match Area::from_record(record) {
+        None => (11, 0, 0),
+        Some(area) => area.report(),
+    }
+}
+
+impl Area {
+    /// The running area of a sound record, None of an unsound one. The way of a train is the
+    /// summed lengths of the segments before its place, and its position.
+    pub fn from_record(record: &Record) -> Option<Area> {
+        if !sound(record) {
+            return None;
+        }
+        let tables = record.tables;
+        let trains = record.trains.map(|raw| {
+            raw.is_on().then(|| {
+                let passed = &tables.route(raw.route).listed()[..usize::from(raw.place) - 1];
+                let start: u64 = passed.iter().map(|&segment| u64::from(tables.segment(segment).length)).sum();
+                Train { route: raw.route, way: start + u64::from(raw.position), speed: raw.speed, asks: raw.asks }
+            })
+        });
+        Some(Area { tables, allocations: record.allocations, trains, due: record.due })
+    }
+
+    /// The whole record, places and positions worked out from the ways.
+    pub fn record(&self) -> Record {
+        let trains = self.trains.map(|train| match train {
+            None => RawTrain::OFF,
+            Some(train) => {
+                // A way beyond the route's end would show as place 0, which is unsound.
+                let (place, position) = spot(&self.tables, &train).map_or((0, 0), |spot| (spot.place, spot.position));
+                RawTrain { route: train.route, place, position, speed: train.speed, asks: train.asks }
+            }
+        });
+        Record { tables: self.tables, allocations: self.allocations, trains, due: self.due }
+    }
+
+    pub fn tables(&self) -> &Tables {
+        &self.tables
+    }
+
+    pub fn call(&mut self, call: &Call) -> u8 {
+        match *call {
+            Call::Enter { train, route, speed } => self.enter(train, route, speed),
+            Call::Leave { train } => self.leave(train),
+            Call::Speed { wishes } => self.speed(wishes),
+            Call::Request => self.request(),
+            Call::Grant => self.grant(),
+            Call::Position => self.position(),
+        }
+    }
+
+    /// "Enter: 11, 13, 14, 16, 17, 18, 19."
+    pub fn enter(&mut self, train: u16, route: u16, speed: u16) -> u8 {
+        if !self.is_sound() {
+            return 11;
+        }
+        // 13 "number not 1 to 24"
+        if !(1..=24).contains(&train) {
+            return 13;
+        }
+        // 14 "that train is on the area"
+        if self.trains[usize::from(train) - 1].is_some() {
+            return 14;
+        }
+        // 16 "not 1 to R"
+        if !(1..=u16::from(self.tables.r)).contains(&route) {
+            return 16;
+        }
+        let (train, route) = (train as u8, route as u8);
+        let first = self.tables.route(route).numbers[0];
+        // 17 "route's first segment lacks the entry flag"
+        if self.tables.segment(first).flags & ENTRY == 0 {
+            return 17;
+        }
+        // 18 "that segment is allocated"
+        if self.allocated(first) != 0 {
+            return 18;
+        }
+        // 19 "speed above its limit"
+        if speed > self.tables.segment(first).limit {
+            return 19;
+        }
+        // "position 0 of the first segment, which becomes allocated"
+        self.trains[usize::from(train) - 1] = Some(Train { route, way: 0, speed, asks: false });
+        self.allocate(first, train);
+        0
+    }
+
+    /// "Leave: 11, 13, 15, 20."
+    pub fn leave(&mut self, train: u16) -> u8 {
+        if !self.is_sound() {
+            return 11;
+        }
+        // 13 "number not 1 to 24"
+        if !(1..=24).contains(&train) {
+            return 13;
+        }
+        // 15 "that train is off"
+        let Some(on) = self.trains[usize::from(train) - 1] else {
+            return 15;
+        };
+        // 20 "segment is not the route's last or lacks the exit flag"
+        let spot = self.spot(&on);
+        if spot.next.is_some() || self.tables.segment(spot.own).flags & EXIT == 0 {
+            return 20;
+        }
+        // "the train goes off; all allocated to it is freed"
+        self.trains[usize::from(train) - 1] = None;
+        for allocation in &mut self.allocations {
+            if u16::from(*allocation) == train {
+                *allocation = 0;
+            }
+        }
+        0
+    }
+
+    /// "Speed: 11, 12, 21."
+    pub fn speed(&mut self, wishes: &[u16]) -> u8 {
+        if !self.is_sound() {
+            return 11;
+        }
+        if self.due != SPEED {
+            return 12;
+        }
+        // 21 "the list handed in hasn't 24 entries"
+        if wishes.len() != 24 {
+            return 21;
+        }
+        for number in 1..=24 {
+            // "entries of trains off are ignored"
+            let Some(mut train) = self.trains[usize::from(number) - 1] else { continue };
+            let spot = self.spot(&train);
+            let limit = self.tables.segment(spot.own).limit;
+            // "Low = max(0, speed − `b`)."
+            let low = train.speed.saturating_sub(self.tables.b);
+            let high = if !self.near(&spot) {
+                // "Not near: up to the segment's limit."
+                limit
+            } else {
+                match spot.next {
+                    // "Near with next allocated to it: up to the smaller of both limits."
+                    Some(next) if self.allocated(next) == number => limit.min(self.tables.segment(next).limit),
+                    // "Near without it: exactly low."
+                    _ => low,
+                }
+            };
+            // "Wishes outside go to the closer end." (Low is never above high: the speed is
+            // within the limit, and rule 9 keeps next's limit + b at or above it.)
+            train.speed = wishes[usize::from(number) - 1].clamp(low, high);
+            self.trains[usize::from(number) - 1] = Some(train);
+        }
+        self.due = REQUEST;
+        0
+    }
+
+    /// "Request, grant, position: 11, 12."
+    pub fn request(&mut self) -> u8 {
+        if !self.is_sound() {
+            return 11;
+        }
+        if self.due != REQUEST {
+            return 12;
+        }
+        for number in 1..=24 {
+            let Some(mut train) = self.trains[usize::from(number) - 1] else { continue };
+            let spot = self.spot(&train);
+            // "a near train whose next exists and isn't allocated to it asks"
+            train.asks = self.near(&spot) && spot.next.is_some_and(|next| self.allocated(next) != number);
+            self.trains[usize::from(number) - 1] = Some(train);
+        }
+        self.due = GRANT;
+        0
+    }
+
+    pub fn grant(&mut self) -> u8 {
+        if !self.is_sound() {
+            return 11;
+        }
+        if self.due != GRANT {
+            return 12;
+        }
+        // "each unallocated segment goes to the least train number asking for it; all asking
+        // ends": in the order of the numbers, the first to ask takes it.
+        for number in 1..=24 {
+            let Some(mut train) = self.trains[usize::from(number) - 1] else { continue };
+            if train.asks {
+                if let Some(next) = self.spot(&train).next {
+                    if self.allocated(next) == 0 {
+                        self.allocate(next, number);
+                    }
+                }
+            }
+            train.asks = false;
+            self.trains[usize::from(number) - 1] = Some(train);
+        }
+        self.due = POSITION;
+        0
+    }
+
+    pub fn position(&mut self) -> u8 {
+        if !self.is_sound() {
+            return 11;
+        }
+        if self.due != POSITION {
+            return 12;
+        }
+        for number in 1..=24u8 {
+            let Some(mut train) = self.trains[usize::from(number) - 1] else { continue };
+            let old = self.spot(&train);
+            // "position + speed. At or above the length it moves on: length subtracted, old
+            // segment freed." The way grows by the speed; the rest follows from the way.
+            train.way += u64::from(train.speed);
+            if u64::from(old.position) + u64::from(train.speed) >= u64::from(self.tables.segment(old.own).length) {
+                self.allocate(old.own, 0);
+            }
+            self.trains[usize::from(number) - 1] = Some(train);
+        }
+        self.due = SPEED;
+        0
+    }
+
+    /// "Report: 11." Its number, "allocated segments counted .., and the least free segment, 0
+    /// if none"; "report's [refusal] gives zeros".
+    // reading: the least free segment is looked for among 1 to N; a record above N is no segment.
+    pub fn report(&self) -> (u8, u32, u32) {
+        if !self.is_sound() {
+            return (11, 0, 0);
+        }
+        let count = (1..=self.tables.n).filter(|&segment| self.allocated(segment) != 0).count();
+        let least_free = (1..=self.tables.n).find(|&segment| self.allocated(segment) == 0).unwrap_or(0);
+        (0, count as u32, least_free.into())
+    }
+
+    /// 11 "the area record breaks a condition": tested on the whole record, at each call.
+    fn is_sound(&self) -> bool {
+        sound(&self.record())
+    }
+
+    fn spot(&self, train: &Train) -> Spot {
+        spot(&self.tables, train).expect("a train of a sound record has an own segment")
+    }
+
+    /// "Near means position ≥ length − `d`."
+    fn near(&self, spot: &Spot) -> bool {
+        spot.position + self.tables.d >= self.tables.segment(spot.own).length
+    }
+
+    fn allocated(&self, segment: u8) -> u8 {
+        self.allocations[usize::from(segment) - 1]
+    }
+
+    fn allocate(&mut self, segment: u8, train: u8) {
+        self.allocations[usize::from(segment) - 1] = train;
+    }
+}

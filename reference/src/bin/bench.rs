@@ -1,0 +1,107 @@
+//! The core and the second program on the same inputs, in one process: microseconds each and the ratio core / second program.
+//! Both test the whole record at every call. Answers and states go to buffers that are not cleared between runs.
+use reference::script::{script_of, words_of};
+use reference::unit::{self, STATE_SIZE};
+use reference::*;
+use std::hint::black_box;
+use std::time::Instant;
+
+/// The least mean of nine rounds, in microseconds.
+fn time<R>(turns: u32, mut run: impl FnMut() -> R) -> f64 {
+    let mut round = || {
+        let start = Instant::now();
+        for _ in 0..turns {
+            black_box(run());
+        }
+        start.elapsed().as_secs_f64() * 1e6 / f64::from(turns)
+    };
+    (0..9).map(|_| round()).fold(f64::MAX, f64::min)
+}
+
+fn line(what: &str, core: f64, second: f64) {
+    println!("{what:40} {core:9.2} {second:9.2} {:8.2}", core / second);
+}
+
+fn loads(name: &str, file: &[u8]) {
+    let core = time(2000, || unit::load(black_box(file)));
+    let second = time(2000, || load(black_box(file)).is_ok());
+    line(&format!("load, {name}"), core, second);
+}
+
+/// One call on a record, less what handing the record over takes.
+fn one_call(name: &str, file: &[u8], area: &Area, call: &Call) -> (f64, f64) {
+    let script = words_of(call);
+    let mut answer = [0];
+    let before = unit::state_of(&area.record());
+    let mut state = before;
+    let mut run = |script: &[u16]| {
+        time(2000, || {
+            state.copy_from_slice(&before);
+            unit::run_record(file, script, &mut answer, &mut state);
+        })
+    };
+    let core = run(&script) - run(&[]);
+    let with = time(2000, || {
+        let mut area = black_box(*area);
+        area.call(call);
+        area
+    });
+    let without = time(2000, || black_box(*area));
+    let mut after = *area;
+    let what = format!("{name} answered {}", after.call(call));
+    line(&what, core, with - without);
+    (core, with - without)
+}
+
+/// The calls of a cycle one after the other, an entry and a leave, each on the record where it is due.
+fn calls(name: &str, description: &Description, trains: u16) {
+    let file = description.file();
+    let mut area = load(&file).expect("the area is accepted");
+    (1..=trains).for_each(|t| assert_eq!(area.enter(t, t, 200), 0));
+    let wishes = [300; 24];
+    let cycle = [("speed", Call::Speed { wishes: &wishes }), ("request", Call::Request), ("grant", Call::Grant), ("position", Call::Position)];
+    // far enough that trains ask and are granted
+    for _ in 0..15 {
+        cycle.iter().for_each(|(_, call)| assert_eq!(area.call(call), 0));
+    }
+    let mut times = vec![];
+    for (step, call) in &cycle {
+        times.push(one_call(&format!("{step}, {name}"), &file, &area, call));
+        area.call(call);
+    }
+    times.push(one_call(&format!("enter, {name}"), &file, &area, &Call::Enter { train: 1, route: 1, speed: 0 }));
+    times.push(one_call(&format!("leave, {name}"), &file, &area, &Call::Leave { train: 1 }));
+    let sum = |part: fn(&(f64, f64)) -> f64| times.iter().map(part).sum::<f64>() / times.len() as f64;
+    line(&format!("mean call, {name}"), sum(|x| x.0), sum(|x| x.1));
+}
+
+fn replay(name: &str, description: &Description, trains: u16) {
+    let file = description.file();
+    let wishes = [300; 24];
+    let mut calls: Vec<Call> = (1..=trains).map(|t| Call::Enter { train: t, route: t, speed: 200 }).collect();
+    for _ in 0..200 {
+        calls.extend([Call::Speed { wishes: &wishes }, Call::Request, Call::Grant, Call::Position]);
+    }
+    let script = script_of(&calls);
+    let mut answers = vec![0; calls.len()];
+    let mut state = [0; STATE_SIZE];
+    let core = time(20, || unit::run_file(&file, &script, &mut answers, &mut state));
+    let second = time(20, || {
+        let mut area = load(&file).expect("the area is accepted");
+        for call in &calls {
+            black_box(area.call(call));
+        }
+        area
+    });
+    line(&format!("replay of {} calls, {name}, a call", calls.len()), core / calls.len() as f64, second / calls.len() as f64);
+}
+
+fn main() {
+    println!("{:40} {:>9} {:>9} {:>8}", "microseconds", "core", "second", "ratio");
+    loads("Area A", &area_a().file());
+    loads("full area", &full_area().file());
+    calls("Area A", &area_a(), 2);
+    calls("full area", &full_area(), 24);
+    replay("Area A", &area_a(), 2);
+    replay("full area", &full_area(), 24);
+}

@@ -1,0 +1,112 @@
+//! Turns a scenario written as text into a script of calls.
+//!
+//!     script <SCENARIO    reads the text from standard input and writes the script to standard output
+//!
+//! A line has a call with its numbers, or nothing; `#` starts a comment. The calls are `enter TRAIN ROUTE SPEED`, `leave TRAIN`,
+//! `speed WISH` for all 24 trains, `speed WISH WISH ..` with just these wishes, `request`, `grant`, `position`, and `cycle WISH`
+//! for the four steps of a cycle. Where a line cannot be read, nothing is written.
+use reference::script::{words_of, WORDS};
+use reference::Call;
+use std::io::{Read, Write};
+
+const MOST_WISHES: usize = 25;
+
+type Record = [u16; WORDS];
+
+fn speed(wishes: &[u16]) -> Record {
+    words_of(&Call::Speed { wishes })
+}
+
+fn number(text: &str) -> Result<u16, String> {
+    // a sign is no part of a number, though the library would read one
+    if !text.bytes().all(|b| b.is_ascii_digit()) {
+        return Err(format!("'{text}' is no number"));
+    }
+    text.parse().map_err(|_| format!("{text} is above 65535"))
+}
+
+/// The numbers of a call that takes exactly the named ones.
+fn exactly<const N: usize>(call: &str, names: [&str; N], given: &[u16]) -> Result<[u16; N], String> {
+    given.try_into().map_err(|_| {
+        let takes = if N == 0 { "no number".into() } else { names.join(" ") };
+        format!("'{call}' takes {takes}, and {} given", counted(given.len()))
+    })
+}
+
+fn counted(numbers: usize) -> String {
+    match numbers {
+        0 => "no number is".into(),
+        1 => "one number is".into(),
+        n => format!("{n} numbers are"),
+    }
+}
+
+/// The calls of one line.
+fn calls(line: &str) -> Result<Vec<Record>, String> {
+    let text = line.split('#').next().unwrap_or("");
+    let mut parts = text.split_whitespace();
+    let Some(call) = parts.next() else { return Ok(vec![]) };
+    if !["enter", "leave", "speed", "request", "grant", "position", "cycle"].contains(&call) {
+        return Err(format!("there is no call '{call}'; the calls are enter, leave, speed, request, grant, position and cycle"));
+    }
+    let given = parts.map(number).collect::<Result<Vec<u16>, String>>()?;
+    Ok(match call {
+        "enter" => {
+            let [train, route, speed] = exactly(call, ["TRAIN", "ROUTE", "SPEED"], &given)?;
+            vec![words_of(&Call::Enter { train, route, speed })]
+        }
+        "leave" => {
+            let [train] = exactly(call, ["TRAIN"], &given)?;
+            vec![words_of(&Call::Leave { train })]
+        }
+        "speed" => match given[..] {
+            [] => return Err("'speed' takes one WISH for all trains or up to 25 WISHES, and no number is given".into()),
+            [wish] => vec![speed(&[wish; 24])],
+            _ if given.len() > MOST_WISHES => return Err(format!("'speed' takes up to 25 wishes, and {} are given", given.len())),
+            _ => vec![speed(&given)],
+        },
+        "cycle" => {
+            let [wish] = exactly(call, ["WISH"], &given)?;
+            vec![speed(&[wish; 24]), words_of(&Call::Request), words_of(&Call::Grant), words_of(&Call::Position)]
+        }
+        _ => {
+            let [] = exactly(call, [], &given)?;
+            vec![words_of(match call {
+                "request" => &Call::Request,
+                "grant" => &Call::Grant,
+                _ => &Call::Position,
+            })]
+        }
+    })
+}
+
+fn script(text: &str) -> Result<Vec<Record>, String> {
+    let mut records = vec![];
+    for (i, line) in text.lines().enumerate() {
+        records.extend(calls(line).map_err(|wrong| format!("line {}: {wrong}", i + 1))?);
+    }
+    Ok(records)
+}
+
+fn fail(wrong: impl std::fmt::Display) -> ! {
+    eprintln!("script: {wrong}");
+    std::process::exit(1);
+}
+
+fn main() {
+    if std::env::args().count() > 1 {
+        fail("takes no arguments: the scenario comes from standard input");
+    }
+    let mut text = vec![];
+    if let Err(wrong) = std::io::stdin().lock().read_to_end(&mut text) {
+        fail(format!("the scenario cannot be read: {wrong}"));
+    }
+    // a comment may be in any encoding, and some editors begin a file with a mark
+    let text = String::from_utf8_lossy(&text);
+    let records = script(text.trim_start_matches('\u{feff}')).unwrap_or_else(|wrong| fail(wrong));
+    let bytes: Vec<u8> = records.iter().flatten().flat_map(|word| word.to_le_bytes()).collect();
+    let mut out = std::io::stdout().lock();
+    if let Err(wrong) = out.write_all(&bytes).and_then(|()| out.flush()) {
+        fail(format!("the script cannot be written: {wrong}"));
+    }
+}

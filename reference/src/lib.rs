@@ -1,0 +1,46 @@
+//! One radio block area: segments, routes, trains.
+//!
+//! A second program, written from document 01 and from nothing else, to be read beside it. Sentences of the paper stand in quotation marks. Where the paper leaves
+//! something open, a comment begins with `reading:`.
+
+// The modules in the paper's order.
+
+// Units and braking
+pub mod braking;
+
+// the tables, and rules 4 to 10 on them
+pub mod tables;
+
+// The area file, refusals 1 to 10
+pub mod file;
+
+// The calls, refusals 11 to 21, and the report
+pub mod area;
+
+// the route view
+pub mod view;
+
+// the area record, and "A sound record"
+pub mod record;
+
+// Whole runs
+pub mod demand3;
+
+// a writer of files for tests, and Area A
+pub mod write;
+
+// the binary script, random areas and lists, and the core linked in: not of the paper
+pub mod breaks;
+pub mod random;
+pub mod script;
+#[cfg(feature = "unit")]
+pub mod unit;
+
+pub use area::{call_on, load, report_on, Area, Call};
+pub use braking::{b_rest, s};
+pub use demand3::Demand3;
+pub use file::{check, decode_tables, read, Refusal};
+pub use record::{sound, RawTrain, Record, GRANT, POSITION, REQUEST, SPEED};
+pub use tables::{Route, Segment, Tables, ENTRY, EXIT};
+pub use view::{route_view, route_view_start};
+pub use write::{area_a, full_area, put_checks, Description};

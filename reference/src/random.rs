@@ -1,0 +1,181 @@
+//! Random areas and lists of calls for the comparison: seeded, so that every run is the same.
+
+use crate::area::Call;
+use crate::braking::s;
+use crate::tables::{Segment, ENTRY, EXIT};
+use crate::write::Description;
+
+pub struct Random(u64);
+
+impl Random {
+    pub fn new(seed: u64) -> Random {
+        Random(seed)
+    }
+
+    pub fn draw(&mut self) -> u64 {
+        self.0 = self.0.wrapping_add(0x9e37_79b9_7f4a_7c15);
+        let mut z = self.0;
+        z = (z ^ (z >> 30)).wrapping_mul(0xbf58_476d_1ce4_e5b9);
+        z = (z ^ (z >> 27)).wrapping_mul(0x94d0_49bb_1331_11eb);
+        z ^ (z >> 31)
+    }
+
+    /// One of low to high, both included.
+    pub fn within(&mut self, low: u64, high: u64) -> u64 {
+        low + self.draw() % (high - low + 1)
+    }
+
+    /// As `within`, but one time in four an end.
+    pub fn edgy(&mut self, low: u64, high: u64) -> u64 {
+        match self.draw() % 8 {
+            0 => low,
+            1 => high,
+            _ => self.within(low, high),
+        }
+    }
+
+    pub fn one_in(&mut self, n: u64) -> bool {
+        self.draw().is_multiple_of(n)
+    }
+
+    pub fn of<'a, T>(&mut self, list: &'a [T]) -> &'a T {
+        &list[self.draw() as usize % list.len()]
+    }
+}
+
+/// `gmax`, `b` and `d` that leave room for lengths; `d` is S(gmax) exactly one time in two. `lively`: few cycles a segment.
+fn speeds(random: &mut Random, lively: bool) -> (u16, u16, u32) {
+    loop {
+        let gmax = random.edgy(1, 1000) as u16;
+        let b = if lively { random.within(u64::from(gmax).div_ceil(3), gmax.into()) } else { random.edgy(1, gmax.into()) } as u16;
+        let least = s(b.into(), gmax.into());
+        let highest = 1_000_000 - u64::from(gmax) - 1;
+        if least <= highest {
+            let d = if lively || random.one_in(2) { least } else { random.edgy(least, highest) };
+            return (gmax, b, d as u32);
+        }
+    }
+}
+
+/// Links that rise, two of each kind a segment at the most.
+fn links(random: &mut Random, n: usize) -> (Vec<[u8; 2]>, Vec<[u8; 2]>) {
+    let mut next = vec![[0u8; 2]; n];
+    let mut previous = vec![[0u8; 2]; n];
+    for from in 0..n {
+        for slot in 0..random.within(0, 2) as usize {
+            if from + 1 == n {
+                break;
+            }
+            // near ahead for the most part, so that routes are long
+            let far = if random.one_in(3) { n - 1 } else { (from + 3).min(n - 1) };
+            let to = random.within(from as u64 + 1, far as u64) as usize;
+            let free = previous[to].iter().position(|&link| link == 0);
+            if let (Some(place), true) = (free, next[from][0] != to as u8 + 1) {
+                let slot = if next[from][0] == 0 { 0 } else { slot };
+                next[from][slot] = to as u8 + 1;
+                previous[to][place] = from as u8 + 1;
+            }
+        }
+    }
+    (next, previous)
+}
+
+/// An area that meets every rule.
+pub fn area(random: &mut Random, lively: bool) -> Description {
+    let (gmax, b, d) = speeds(random, lively);
+    let n = random.edgy(1, 62) as usize;
+    let (next, previous) = links(random, n);
+    let shortest = u64::from(d) + u64::from(gmax) + 1;
+    let mut limits = vec![0u16; n];
+    for s in (0..n).rev() {
+        let after = next[s].iter().filter(|&&link| link != 0).map(|&link| limits[usize::from(link) - 1] + b).min();
+        let highest = after.unwrap_or(gmax).min(gmax);
+        // the drop rule met with equality often
+        limits[s] = if random.one_in(2) { highest } else { random.edgy(1, highest.into()) as u16 };
+    }
+    let segments: Vec<Segment> = (0..n)
+        .map(|s| Segment {
+            length: if lively { random.within(shortest, (shortest + shortest / 4).min(1_000_000)) } else { random.edgy(shortest, 1_000_000) } as u32,
+            limit: limits[s],
+            next: next[s],
+            previous: previous[s],
+            flags: if lively { ENTRY | EXIT } else { random.within(0, 3) as u8 },
+        })
+        .collect();
+    let routes = (0..random.edgy(1, 30)).map(|_| route(random, &segments)).collect();
+    Description { gmax, b, d, segments, routes }
+}
+
+/// A walk along next links.
+fn route(random: &mut Random, segments: &[Segment]) -> Vec<u8> {
+    let mut at = random.within(1, segments.len() as u64) as u8;
+    let mut route = vec![at];
+    let longest = random.edgy(1, 31) as usize;
+    while route.len() < longest {
+        let links: Vec<u8> = segments[usize::from(at) - 1].next.into_iter().filter(|&link| link != 0).collect();
+        if links.is_empty() {
+            break;
+        }
+        at = *random.of(&links);
+        route.push(at);
+    }
+    route
+}
+
+/// A number for an argument: mostly one that there is.
+fn number(random: &mut Random, most: u64) -> u16 {
+    match random.draw() % 16 {
+        0 => *random.of(&[0, most as u16 + 1, 255, 256, 257, 65_535]),
+        _ => random.within(1, most) as u16,
+    }
+}
+
+fn wishes(random: &mut Random, gmax: u16) -> Vec<u16> {
+    let count = if random.one_in(20) { *random.of(&[0, 1, 23, 25, 26, 100]) } else { 24 };
+    let all = match random.draw() % 4 {
+        0 => None,
+        1 => Some(*random.of(&[0, 1, 65_535])),
+        _ => Some(gmax),
+    };
+    (0..count).map(|_| all.unwrap_or_else(|| random.edgy(0, u64::from(gmax) + 5) as u16)).collect()
+}
+
+/// A call that owns its wishes.
+#[derive(Clone, Debug)]
+pub enum Owned {
+    Enter(u16, u16, u16),
+    Leave(u16),
+    Speed(Vec<u16>),
+    Request,
+    Grant,
+    Position,
+}
+
+impl Owned {
+    pub fn call(&self) -> Call<'_> {
+        match self {
+            Owned::Enter(train, route, speed) => Call::Enter { train: *train, route: *route, speed: *speed },
+            Owned::Leave(train) => Call::Leave { train: *train },
+            Owned::Speed(wishes) => Call::Speed { wishes },
+            Owned::Request => Call::Request,
+            Owned::Grant => Call::Grant,
+            Owned::Position => Call::Position,
+        }
+    }
+}
+
+/// Any call. `due` is the step that is likely due: mostly that one comes, so that trains get on.
+pub fn call(random: &mut Random, area: &Description, due: u8) -> Owned {
+    let routes = area.routes.len() as u64;
+    let step = if random.one_in(12) { random.within(0, 3) as u8 } else { due };
+    match random.draw() % 20 {
+        0..=2 => Owned::Enter(number(random, 24), number(random, routes), random.edgy(0, u64::from(area.gmax) + 1) as u16),
+        3..=4 => Owned::Leave(number(random, 24)),
+        _ => match step {
+            0 => Owned::Speed(wishes(random, area.gmax)),
+            1 => Owned::Request,
+            2 => Owned::Grant,
+            _ => Owned::Position,
+        },
+    }
+}

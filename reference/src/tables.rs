@@ -1,0 +1,176 @@
+//! The tables of an area, and rules 4 to 10 as far as they speak of what the tables keep.
+//!
+//! Two readers use these rules: load (which adds the bytes that the tables do not keep:
+//! version and zeros) and the sound record ("Tables meet 4 to 10").
+
+use crate::braking::s;
+
+/// "flags (1 entry, 2 exit, sum of both)"
+pub const ENTRY: u8 = 1;
+pub const EXIT: u8 = 2;
+
+/// "length (4 bytes), limit (2), two next links, two previous links (a byte each, 0 for
+/// none), flags"
+#[derive(Clone, Copy, PartialEq, Eq, Debug)]
+pub struct Segment {
+    pub length: u32,
+    pub limit: u16,
+    pub next: [u8; 2],
+    pub previous: [u8; 2],
+    pub flags: u8,
+}
+
+/// "count 1 to 31, then the segment numbers, rest zero"
+#[derive(Clone, Copy, PartialEq, Eq, Debug)]
+pub struct Route {
+    pub count: u8,
+    pub numbers: [u8; 31],
+}
+
+#[derive(Clone, Copy, PartialEq, Eq, Debug)]
+pub struct Tables {
+    /// segments N
+    pub n: u8,
+    /// routes R
+    pub r: u8,
+    /// the top speed
+    pub gmax: u16,
+    /// the speed lost by one cycle of full braking
+    pub b: u16,
+    /// the end distance
+    pub d: u32,
+    /// segment number k at index k − 1
+    pub segments: [Segment; 62],
+    /// route number k at index k − 1
+    pub routes: [Route; 30],
+}
+
+impl Segment {
+    pub const ZERO: Segment = Segment { length: 0, limit: 0, next: [0; 2], previous: [0; 2], flags: 0 };
+
+    /// The next links that there are ("0 for none").
+    pub fn next_links(&self) -> impl Iterator<Item = u8> {
+        self.next.into_iter().filter(|&link| link != 0)
+    }
+
+    /// The previous links that there are.
+    pub fn previous_links(&self) -> impl Iterator<Item = u8> {
+        self.previous.into_iter().filter(|&link| link != 0)
+    }
+}
+
+impl Route {
+    pub const ZERO: Route = Route { count: 0, numbers: [0; 31] };
+
+    /// The segment numbers without the zeros after them. (A count above 31 breaks rule 10.)
+    pub fn listed(&self) -> &[u8] {
+        &self.numbers[..usize::from(self.count.min(31))]
+    }
+}
+
+impl Tables {
+    pub const ZERO: Tables =
+        Tables { n: 0, r: 0, gmax: 0, b: 0, d: 0, segments: [Segment::ZERO; 62], routes: [Route::ZERO; 30] };
+
+    /// Segment by number, 1 to 62.
+    pub fn segment(&self, number: u8) -> &Segment {
+        &self.segments[usize::from(number) - 1]
+    }
+
+    /// Route by number, 1 to 30.
+    pub fn route(&self, number: u8) -> &Route {
+        &self.routes[usize::from(number) - 1]
+    }
+
+    /// 4 header: "segments N, 1 to 62"; "routes R, 1 to 30"; "`gmax`, 1 to 1000"; "`b`, 1 to
+    /// `gmax`"; "`d`, 1 to 1,000,000".
+    pub(crate) fn breaks_4(&self) -> bool {
+        !(1..=62).contains(&self.n)
+            || !(1..=30).contains(&self.r)
+            || !(1..=1000).contains(&self.gmax)
+            || !(1..=self.gmax).contains(&self.b)
+            || !(1..=1_000_000).contains(&self.d)
+    }
+
+    /// 5 margin: "`d` < S(`gmax`)".
+    pub(crate) fn breaks_5(&self) -> bool {
+        u64::from(self.d) < s(self.b.into(), self.gmax.into())
+    }
+
+    /// 6 segment, of the record with this number, 1 to 62.
+    pub(crate) fn breaks_6(&self, number: u8) -> bool {
+        let segment = self.segment(number);
+        if number > self.n {
+            // "a record above N not all zero"
+            return *segment != Segment::ZERO;
+        }
+        // "length not above `d` + `gmax` or over 1,000,000"
+        let length = u64::from(segment.length);
+        length <= u64::from(self.d) + u64::from(self.gmax)
+            || length > 1_000_000
+            // "limit not 1 to `gmax`"
+            || !(1..=self.gmax).contains(&segment.limit)
+            // "link over N; a second link that is not 0 while the first is 0 or the same number"
+            // reading: said of the two next links and of the two previous links alike.
+            || [segment.next, segment.previous].into_iter().any(|[first, second]| {
+                first > self.n || second > self.n || (second != 0 && (first == 0 || first == second))
+            })
+            // "flags over 3"
+            || segment.flags > 3
+    }
+
+    /// 7 joint, of the links of this segment: "a next link without the matching previous
+    /// link, or the reverse". Asked only where 6 holds, so that every link is 1 to N.
+    // reading: the segment "with such a link" is the one whose record holds the link that
+    // stands without its match, be it a next link or a previous link.
+    pub(crate) fn breaks_7(&self, number: u8) -> bool {
+        let segment = self.segment(number);
+        segment.next_links().any(|next| !self.segment(next).previous.contains(&number))
+            || segment.previous_links().any(|previous| !self.segment(previous).next.contains(&number))
+    }
+
+    /// 8 order: "a next link not greater than its segment".
+    pub(crate) fn breaks_8(&self, number: u8) -> bool {
+        self.segment(number).next_links().any(|next| next <= number)
+    }
+
+    /// 9 drop: "limit of a next segment + `b` < own limit".
+    pub(crate) fn breaks_9(&self, number: u8) -> bool {
+        let segment = self.segment(number);
+        segment
+            .next_links()
+            .any(|next| u32::from(self.segment(next).limit) + u32::from(self.b) < u32::from(segment.limit))
+    }
+
+    /// 10 route, of the record with this number, 1 to 30.
+    // reading: a route may start at a segment without the entry flag and end at one without
+    // the exit flag; refusals 17 and 20 speak of that, rule 10 does not.
+    pub(crate) fn breaks_10(&self, number: u8) -> bool {
+        let route = self.route(number);
+        if number > self.r {
+            // "a record above R not all zero"
+            return *route != Route::ZERO;
+        }
+        // "count outside 1 to 31"
+        !(1..=31).contains(&route.count)
+            // "a number outside 1 to N"
+            || route.listed().iter().any(|&segment| !(1..=self.n).contains(&segment))
+            // "a step that is no next link"
+            || route.listed().windows(2).any(|step| !self.segment(step[0]).next.contains(&step[1]))
+            // "a zero broken"
+            || route.numbers[route.listed().len()..].iter().any(|&byte| byte != 0)
+    }
+
+    /// "Tables meet 4 to 10."
+    // reading: as far as the tables keep what the rules speak of; version and zero bytes of
+    // the file are not kept.
+    pub fn meet_4_to_10(&self) -> bool {
+        !self.breaks_4()
+            && !self.breaks_5()
+            && !(1..=62).any(|number| self.breaks_6(number))
+            && !(1..=self.n).any(|number| self.breaks_7(number))
+            && !(1..=self.n).any(|number| self.breaks_8(number))
+            && !(1..=self.n).any(|number| self.breaks_9(number))
+            && !(1..=30).any(|number| self.breaks_10(number))
+    }
+}

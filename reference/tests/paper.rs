@@ -1,0 +1,151 @@
+//! The certain values, Area A's listing, the edges, the route view.
+
+use reference::*;
+
+#[test]
+fn certain_values_of_s_and_b() {
+    for (b, v, way) in [
+        (10, 5, 5),
+        (10, 10, 10),
+        (10, 11, 12),
+        (10, 295, 4500),
+        (10, 300, 4650),
+        (300, 300, 300),
+        (1, 1000, 500_500),
+        (7, 0, 0),
+    ] {
+        assert_eq!(s(b, v), way, "S({v}) with b = {b}");
+    }
+    assert_eq!(b_rest(10, 300), 4350);
+}
+
+/// "v + (v − b) + (v − 2b) + .. while the terms are positive", term by term.
+#[test]
+fn s_is_the_sum_of_its_terms() {
+    for b in 1..=1001 {
+        for v in 0..=1000 {
+            let (mut sum, mut term) = (0, i64::from(v));
+            while term > 0 {
+                sum += term as u64;
+                term -= i64::from(b);
+            }
+            assert_eq!(s(b, v), sum);
+        }
+    }
+    assert_eq!(s(1, u32::MAX), u64::from(u32::MAX) * (u64::from(u32::MAX) + 1) / 2);
+    assert_eq!(s(u32::MAX, u32::MAX), u64::from(u32::MAX));
+    assert_eq!((s(0, 0), s(0, 1)), (0, u64::MAX));
+}
+
+/// "The program reads Area A's file .., loads it, enters train 1 on route 1 at 250 and train 2
+/// on route 2 at 200, runs six cycles with all wishes 300, and prints cycle, train, segment,
+/// position, speed".
+fn listing(file: &[u8]) -> String {
+    let mut area = load(file).expect("accepted");
+    assert_eq!(area.enter(1, 1, 250), 0);
+    assert_eq!(area.enter(2, 2, 200), 0);
+    let mut lines = String::from("cycle train segment position speed\n");
+    for cycle in 1..=6 {
+        assert_eq!((area.speed(&[300; 24]), area.request(), area.grant(), area.position()), (0, 0, 0, 0));
+        let record = area.record();
+        for (number, train) in (1..).zip(&record.trains).filter(|(_, train)| train.is_on()) {
+            let segment = record.tables.route(train.route).listed()[usize::from(train.place) - 1];
+            lines += &format!("{cycle} {number} {segment} {} {}\n", train.position, train.speed);
+        }
+    }
+    lines
+}
+
+#[test]
+fn listing_of_area_a() {
+    assert_eq!(
+        listing(&area_a().file()),
+        "\
+cycle train segment position speed
+1 1 1 300 300
+1 2 2 290 290
+2 1 1 600 300
+2 2 2 580 290
+3 1 1 900 300
+3 2 2 870 290
+4 1 1 1200 300
+4 2 2 1150 280
+5 1 1 1500 300
+5 2 2 1440 290
+6 1 1 1790 290
+6 2 2 1730 290
+"
+    );
+}
+
+#[test]
+fn loaded_area() {
+    let file = area_a().file();
+    let area = load(&file).unwrap();
+    assert_eq!(area.record(), Record::loaded(decode_tables(&file)));
+    assert!(sound(&area.record()));
+    assert_eq!(area.report(), (0, 0, 1));
+}
+
+fn refused(description: &Description) -> (u8, u16) {
+    load(&description.file()).map_or_else(|refusal| (refusal.number, refusal.place), |_| (0, 0))
+}
+
+/// "`d` 4649 is 5. Length 4950 is 6, 4951 passes. Limit 289 on segment 3 is 9."
+#[test]
+fn edges_of_the_file() {
+    let a = area_a();
+    assert_eq!(refused(&Description { d: 4649, ..a.clone() }), (5, 0));
+    let with_length = |length| {
+        let mut a = area_a();
+        a.segments[1].length = length;
+        a
+    };
+    assert_eq!(refused(&with_length(4950)), (6, 2));
+    assert_eq!(refused(&with_length(4951)), (0, 0));
+    let mut low = a;
+    low.segments[2].limit = 289;
+    assert_eq!(refused(&low), (9, 1));
+}
+
+/// "Position + speed equal to the length moves on to 0."
+#[test]
+fn edge_of_the_position_step() {
+    let mut record = Record::loaded(decode_tables(&area_a().file()));
+    record.trains[0] = RawTrain { route: 1, place: 1, position: 5710, speed: 290, asks: false };
+    record.allocations[..3].copy_from_slice(&[1, 0, 1]);
+    record.due = POSITION;
+    let (number, back) = call_on(&record, &Call::Position);
+    assert_eq!(number, 0);
+    assert_eq!(back.trains[0], RawTrain { route: 1, place: 2, position: 0, speed: 290, asks: false });
+    assert_eq!(back.allocations[..3], [0, 0, 1]);
+    assert_eq!(back.due, SPEED);
+    // one less stays
+    record.trains[0].position = 5709;
+    let (number, back) = call_on(&record, &Call::Position);
+    assert_eq!((number, back.trains[0].place, back.trains[0].position), (0, 1, 5999));
+    assert_eq!(back.allocations[..3], [1, 0, 1]);
+}
+
+#[test]
+fn route_views() {
+    let mut a = area_a();
+    let file = a.file();
+    assert_eq!((route_view(&file, 1), route_view_start(&file, 1)), (&[1, 3][..], 3 * 512 + 1));
+    assert_eq!((route_view(&file, 2), route_view_start(&file, 2)), (&[2, 3][..], 3 * 512 + 33));
+    assert_eq!(route_view(&file, 2).as_ptr(), file[3 * 512 + 33..].as_ptr());
+    for route in [0, 3, 257, 258, u16::MAX] {
+        assert_eq!((route_view(&file, route), route_view_start(&file, route)), (&[][..], 0));
+    }
+    a.routes = vec![vec![3]; 30];
+    let file = a.file();
+    assert_eq!((route_view(&file, 15), route_view_start(&file, 15)), (&[3][..], 3 * 512 + 14 * 32 + 1));
+    assert_eq!((route_view(&file, 16), route_view_start(&file, 16)), (&[3][..], 4 * 512 + 1));
+    assert_eq!((route_view(&file, 30), route_view_start(&file, 30)), (&[3][..], 4 * 512 + 14 * 32 + 1));
+    // empty "when load refuses the file"
+    let mut damaged = file.clone();
+    damaged[100] ^= 1;
+    assert_eq!((route_view(&damaged, 1), route_view_start(&damaged, 1)), (&[][..], 0));
+    assert!(route_view(&file[1..], 1).is_empty());
+    assert!(route_view(&[], 1).is_empty());
+}
