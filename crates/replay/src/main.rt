@@ -12,14 +12,14 @@ use libc::STDOUT_FILENO;
 use trains::Train;
 
 // Calls, and the words and bytes that spell them: 32 and 64 a call.
-const MOST_CALLS: usize = 10000;
+const MOST_CALLS: usize = 1000;
 
-const MOST_WORDS: usize = 320000;
+const MOST_WORDS: usize = 32000;
 
-const MOST_BYTES: usize = 640000;
+const MOST_BYTES: usize = 64000;
 
 // Room for a file, the longest script and one byte more, so that a longer input is seen to be longer.
-const INPUT_ROOM: usize = 642561;
+const INPUT_ROOM: usize = 66561;
 
 // ---- what the input holds
 fn file_in(input: &[u8]) -> &[u8]
@@ -54,7 +54,7 @@ fn word_in(script: &[u8], i: u32) -> u16
 
 // The words of a script, and zeros after them.
 fn words_of(script: &[u8]) -> [u16; MOST_WORDS]
-    ensures { λ r. ⌜ r ≡ tabulate 320000 (wordIn (now (script .entry))) ⌝ }
+    ensures { λ r. ⌜ r ≡ tabulate 32000 (wordIn (now (script .entry))) ⌝ }
 {
     let mut words = [0u16; MOST_WORDS];
     for i in 0..MOST_WORDS {
@@ -179,7 +179,7 @@ fn replay(input: &[u8]) {
     let script = script_in(input);
     let n = script.len();
     if MOST_BYTES < n {
-        refuse(b"the script is longer than 10000 calls\n");
+        refuse(b"the script is longer than 1000 calls\n");
         return;
     }
     if n % 64 != 0 {

@@ -43,12 +43,15 @@ impl Files {
     fn compare(&mut self, random: &mut Random, file: &[u8], what: &str) -> u8 {
         let second = answer(file);
         same(self.seed, what, unit::load(file), second);
-        let route = *random.of(&[0, 1, 2, 15, 16, 30, 31, 257]);
-        let view = route_view(file, route);
-        same(self.seed, "the view", unit::view(file, route), (route_view_start(file, route) as u32, view.len() as u32));
+        // of an accepted file the view of every route, of a refused one some number's
+        let routes = if second.number == 0 { (0..=31).chain([255, 256, 257, 65_535]).collect() } else { vec![random.within(0, 31) as u16] };
+        for route in routes {
+            let view = route_view(file, route);
+            same(self.seed, "the view", unit::view(file, route), (route_view_start(file, route) as u32, view.len() as u32));
+            self.views += u32::from(!view.is_empty());
+        }
         self.count += 1;
         self.rules[usize::from(second.number)] += 1;
-        self.views += u32::from(!view.is_empty());
         second.number
     }
 }
@@ -98,7 +101,7 @@ fn files(seed: u64) {
             seen.compare(&mut random, &file, "random bytes");
         }
     }
-    println!("files: {} compared, {} views of segments among theirs", seen.count, seen.views);
+    println!("files: {} compared, and views of routes, {} of them not empty", seen.count, seen.views);
     for (rule, count) in seen.rules.iter().enumerate() {
         println!("files: answer {rule}: {count}");
         if *count < 500 {
@@ -259,7 +262,8 @@ fn records(seed: u64) {
     let mut random = Random::new(seed);
     let (mut count, mut sounds, mut answers) = (0u32, 0u32, [0u64; 22]);
     while count < RECORDS {
-        let description = random::area(&mut random, true);
+        let lively = !random.one_in(4);
+        let description = random::area(&mut random, lively);
         let mut file = description.file();
         let mut area = load(&file).unwrap_or_else(|refusal| differ(seed, "an area that meets the rules", 0, refusal));
         for _ in 0..random.within(0, 200) {
@@ -297,7 +301,10 @@ fn records(seed: u64) {
             }
         }
     }
-    println!("records: {count} compared, {sounds} sound; answers {answers:?}");
+    println!("records: {count} compared, {sounds} sound: the sound test, the report, and a call with the record that it hands back");
+    for (number, count) in answers.iter().enumerate().filter(|(_, count)| **count > 0) {
+        println!("records: answer {number}: {count}");
+    }
     if !(RECORDS / 10..=RECORDS / 10 * 9).contains(&sounds) {
         println!("compare: too few sound or too few unsound records");
         std::process::exit(1);

@@ -7,10 +7,10 @@ use Rattle.replay.proofs.words_of.Statement.{statement}
 use Rattle.replay.proofs.words_of.Tie as tie
 
 abbrev Inv-loop : tie.InvT-loop
-Inv-loop script words₀ i₀ words i = Tabled 320000 (wordIn script) i words
+Inv-loop script words₀ i₀ words i = Tabled 32000 (wordIn script) i words
 
 abbrev μ-loop : tie.MeasureT-loop
-μ-loop script words₀ i₀ words i = 320000 - i
+μ-loop script words₀ i₀ words i = 32000 - i
 
 loop-holds : tie.Need-loop-holds Inv-loop μ-loop
 loop-holds c = table-begin
