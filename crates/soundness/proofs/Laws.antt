@@ -1,19 +1,22 @@
--- What a train at its place says of its speed: it stops within the end distance.
-use Prim.Native.Nat.{ℕ, _≤_}
+-- What a train at its place says of its speed: it stops within the end distance. An allocation by its holder's slot.
+use Prim.Native.Nat.{ℕ, _-_, _≤_}
 use mathlib.Core.Path.{_≡_}
-use mathlib.Core.Bool.{true}
+use mathlib.Core.Bool.{true, _&&_, _||_, and-false}
 use mathlib.Core.List.{List}
 use native.Mathlib.Nat.{le-refl}
 use native.Mathlib.Omega.{arith}
-use lib.Dec.{eqb}
-use Rattle.lists.proofs.Cases.{if-case}
+use lib.Dec.{leb, eqb}
+use lib.ListN.{length, getD}
+use borrow.Author.Tests.{le-leb, lt-leb, eq-eqb}
+use Rattle.lists.proofs.Cases.{if-case, cases, lt-or-le, eq-or-ne}
+use Rattle.lists.proofs.Numbered.{nth-in, nth-out}
 use Rattle.braking.specs.Braking.{S}
 use Rattle.braking.proofs.Laws.{S-B}
 use Rattle.tables.specs.declared.Tables.{Tables}
 use Rattle.tables.specs.Facts.{Consistent}
 use Rattle.trains.specs.declared.Train.{Train}
-use Rattle.trains.specs.Train.{ownLimit}
-use Rattle.trains.specs.Sound.{placeSound, runIn}
+use Rattle.trains.specs.Train.{mostTrains, off, isOn, ownLimit, occupied, ahead}
+use Rattle.trains.specs.Sound.{placeSound, runIn, allocationSound}
 use Rattle.trains.proofs.Safety.{in-margin}
 use Rattle.trains.proofs.Soundness.{place-facts}
 
@@ -28,3 +31,15 @@ pub limit-stops :
 limit-stops T ok A t x on h =
     let f = place-facts _ _ _ _ _ _ x h in
     in-margin T ok x (record { routeLow = on; routeHigh = f .0; placeLow = f .1; placeHigh = f .2 }) (ownLimit T x) (le-refl (ownLimit T x))
+
+-- a segment's allocation, with the train of the slot k, which is the holder's where there is one
+pub holder-sound :
+    (T : Tables) (trains : List Train) (s h k : ℕ) → length trains ≡ mostTrains → (1 ≤ h → h ≤ mostTrains → k ≡ h - 1)
+    → (eqb h 0 || (leb h mostTrains && leb s (T .segments) && isOn (getD trains k off) && (occupied T (getD trains k off) s || ahead T (getD trains k off) s)))
+    ≡ allocationSound T trains s h
+unfolding allocationSound
+holder-sound T trains s h k long slot =
+    cases (eq-or-ne h 0) (λ z. rw (eq-eqb h 0 z))
+    (λ some.
+    cases (lt-or-le mostTrains h) (λ out. rw (lt-leb h mostTrains out, nth-out off trains h (omega arith), and-false))
+    (λ one. rw (le-leb h mostTrains one, nth-in off trains h (omega arith), slot (omega arith) one)))

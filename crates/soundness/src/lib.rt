@@ -1,7 +1,7 @@
 // The conditions of a sound record on trains and allocations. Of a record handed in nothing is known but what is tested first.
 ghost use mathlib.Core.Path.{_≡_};
 ghost use mathlib.Core.Bool.{true, _&&_, _||_};
-ghost use Prim.Native.Nat.{_≤_};
+ghost use Prim.Native.Nat.{_≤_, _<_, _-_};
 ghost use lib.Dec.{leb, eqb};
 ghost use Rattle.lists.specs.Words.{if_then_else_, at, every};
 ghost use Rattle.braking.specs.Braking.{S};
@@ -115,15 +115,26 @@ pub fn trains_sound(tables: Tables, allocations: [u8; 62], due: u8, trains: [Tra
     true
 }
 
+// The slot of the train that a segment is allocated to, and any where there is none. A train is then read in place: a function
+// that took the trains would copy them all for each segment.
+fn slot_of(h: u8) -> usize
+    ensures { λ r. ⌜ (r < mostTrains) × (1 ≤ h → h ≤ mostTrains → r ≡ h - 1) ⌝ }
+{
+    if (1 <= h) & (h <= 24) {
+        return (h - 1) as usize;
+    }
+    0
+}
+
 fn allocation_sound(ways: &[u8; 960], segments: u8, s: u8, h: u8, x: Train) -> bool
-    ensures { λ r. ⌜ r ≡ (eqb h 0 || (leb s segments && isOn x && (eqb (ownIn (now (ways .entry)) x) s || eqb (nextIn (now (ways .entry)) x) s))) ⌝ }
+    ensures { λ r. ⌜ r ≡ (eqb h 0 || (leb h mostTrains && leb s segments && isOn x && (eqb (ownIn (now (ways .entry)) x) s || eqb (nextIn (now (ways .entry)) x) s))) ⌝ }
 {
     if h == 0 {
         return true;
     }
     let own = trains::own_of(ways, x);
     let next = trains::next_of(ways, x);
-    (s <= segments) & (0 < x.route) & ((own == s) | (next == s))
+    (h <= 24) & (s <= segments) & (0 < x.route) & ((own == s) | (next == s))
 }
 
 pub fn allocations_sound(tables: Tables, allocations: [u8; 62], trains: [Train; 24]) -> bool
@@ -132,7 +143,8 @@ pub fn allocations_sound(tables: Tables, allocations: [u8; 62], trains: [Train; 
     let mut i: usize = 0;
     while i < 62 {
         let h = allocations[i];
-        let x = trains::train_at(trains, h);
+        let k = slot_of(h);
+        let x = trains[k];
         if !allocation_sound(&tables.ways, tables.segments, (i + 1) as u8, h, x) {
             return false;
         }

@@ -13,7 +13,7 @@ use Rattle.lists.proofs.Loops.{every-at, every-all}
 use Rattle.tables.specs.declared.Tables.{Tables}
 use Rattle.tables.specs.Bounds.{mostSegments, mostRoutes, longestRoute, fastest, longest}
 use Rattle.tables.specs.Tables.{firstLink, secondLink, linksTo, segmentOf, countOf, segmentAt}
-use Rattle.tables.specs.Rules.{headerIn, linksOk, usedOk, rowOk, segmentOk, matched, jointIn, orderIn, gentle, dropIn, stepIn, countIn, routeIn, jointOk, orderOk, dropOk, routeOk, meets}
+use Rattle.tables.specs.Rules.{headerIn, linksOk, usedOk, rowOk, segmentOk, matched, jointIn, orderIn, gentle, dropIn, stepBy, stepIn, countIn, routeIn, jointOk, orderOk, dropOk, routeOk, meets}
 use Rattle.tables.specs.Facts.{Meets, IsSegment, Consistent}
 
 -- what holds of each link of a segment that is not 0 holds of every number that it links to
@@ -94,7 +94,7 @@ module _ (T : Tables) (m : Meets T) where
   step-facts :
       (r p : ℕ) → 1 ≤ r → r ≤ T .routes → 1 ≤ p → p ≤ countOf (T .ways) r
       → (IsSegment T (segmentAt (T .ways) r p)) × (2 ≤ p → linksTo (T .next) (segmentAt (T .ways) r (p - 1)) (segmentAt (T .ways) r p) ≡ true)
-  unfolding stepIn
+  unfolding stepIn stepBy
   step-facts r p low high from to =
       let c = count-facts r low high in
       let h = rw (le-leb p (countOf (T .ways) r) to) at (every-at _ longestRoute (route-facts r low high .1) p from (omega arith)) in

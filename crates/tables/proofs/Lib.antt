@@ -1,1 +1,2 @@
 pub mod Consistency
+pub mod Routes

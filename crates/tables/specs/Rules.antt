@@ -79,12 +79,12 @@ abbrev pub dropOk : Tables → ℕ → Bool
 dropOk T = dropIn (T .limits) (T .next) (T .braking)
 
 -- rule 10, route: a place up to the count has a number 1 to n that, after the first place, the segment before links to; the rest is zero
+unfoldable pub stepBy : (next : List ℕ) (n count p before segment : ℕ) → Bool
+stepBy next n count p before segment =
+    if leb p count then leb 1 segment && leb segment n && (eqb p 1 || linksTo next before segment) else eqb segment 0
+
 unfoldable pub stepIn : (next ways : List ℕ) (n r p : ℕ) → Bool
-stepIn next ways n r p =
-    if leb p (countOf ways r)
-    then leb 1 (segmentAt ways r p) && leb (segmentAt ways r p) n
-    && (eqb p 1 || linksTo next (segmentAt ways r (p - 1)) (segmentAt ways r p))
-    else eqb (segmentAt ways r p) 0
+stepIn next ways n r p = stepBy next n (countOf ways r) p (segmentAt ways r (p - 1)) (segmentAt ways r p)
 
 -- the count is 1 to 31 of a route up to R, and 0 of a record above R
 unfoldable pub countIn : (ways : List ℕ) (R r : ℕ) → Bool

@@ -1,12 +1,13 @@
 // The tables of an area by value, and rules 4 to 10 over them. Arrays are lent to the rules, so that none is copied.
 ghost use mathlib.Core.Path.{_≡_};
 ghost use Prim.Native.Nat.{_≤_, _+_, _-_};
-ghost use lib.Dec.{leb};
-ghost use Rattle.lists.specs.Words.{firstFailing};
+ghost use mathlib.Core.Bool.{_||_};
+ghost use lib.Dec.{leb, eqb};
+ghost use Rattle.lists.specs.Words.{every, firstFailing};
 ghost use Rattle.braking.specs.Braking.{S};
-ghost use Rattle.tables.specs.Bounds.{mostSegments, mostRoutes};
+ghost use Rattle.tables.specs.Bounds.{mostSegments, mostRoutes, longestRoute};
 ghost use Rattle.tables.specs.Tables.{firstLink, secondLink, linksTo, rowOf, countOf, segmentAt, blankTables};
-ghost use Rattle.tables.specs.Rules.{headerIn, linksOk, usedOk, unusedOk, rowOk, matched, jointIn, greater, orderIn, gentle, dropIn, stepIn, countIn, routeIn, meets};
+ghost use Rattle.tables.specs.Rules.{headerIn, linksOk, usedOk, unusedOk, rowOk, matched, jointIn, greater, orderIn, gentle, dropIn, stepBy, countIn, routeIn, meets};
 use lists::entry_u8;
 use lists::entry_u16;
 use lists::entry_u32;
@@ -82,9 +83,17 @@ fn second_link(links: &[u8; 124], s: u8) -> u8
     entry_u8(links, 2 * (s as usize))
 }
 
+// One test of the segment's number for both links, which are then read straight: every call asks this of every link and place.
 fn links_to(links: &[u8; 124], s: u8, n: u8) -> bool
     ensures { λ r. ⌜ r ≡ linksTo (now (links .entry)) s n ⌝ }
 {
+    if (1 <= s) & (s <= MOST_SEGMENTS) {
+        let i = 2 * (s as usize) - 2;
+        if links[i] == n {
+            return true;
+        }
+        return links[i + 1] == n;
+    }
     (first_link(links, s) == n) | (second_link(links, s) == n)
 }
 
@@ -310,21 +319,53 @@ pub fn first_dropping<'a>(limits: &'a [u16; 62], next: &'a [u8; 124], braking: u
 }
 
 // ---- rule 10
-fn place_before(p: u8) -> u8
-    ensures { λ r. ⌜ r ≡ p - 1 ⌝ }
+// The byte of a record at a place, read straight: the count at 0, and then the segments.
+fn way_byte(ways: &[u8; 960], r: u8, p: u8) -> u8
+    requires { ⌜ (1 ≤ r) × (r ≤ mostRoutes) × (p ≤ longestRoute) ⌝ }
+    ensures { λ r′. ⌜ r′ ≡ segmentAt (now (ways .entry)) r p ⌝ }
 {
-    if p == 0 { 0 } else { p - 1 }
+    ways[32 * (r as usize) - 32 + (p as usize)]
 }
 
-fn step_ok<'a>(next: &'a [u8; 124], ways: &'a [u8; 960], n: u8, r: u8, p: u8) -> bool
-    ensures { λ r′. ⌜ r′ ≡ stepIn (now (next .entry)) (now (ways .entry)) n r p ⌝ }
+fn step_ok(next: &[u8; 124], n: u8, count: u8, p: u8, before: u8, segment: u8) -> bool
+    ensures { λ r. ⌜ r ≡ stepBy (now (next .entry)) n count p before segment ⌝ }
 {
-    let segment = segment_at(ways, r, p);
-    if count_of(ways, r) < p {
+    if count < p {
         return segment == 0;
     }
-    let before = segment_at(ways, r, place_before(p));
-    (1 <= segment) & (segment <= n) & ((p == 1) | links_to(next, before, segment))
+    if !((1 <= segment) & (segment <= n)) {
+        return false;
+    }
+    (p == 1) | links_to(next, before, segment)
+}
+
+// The places after the count are zero.
+fn rest_zero(ways: &[u8; 960], r: u8, count: u8) -> bool
+    requires { ⌜ (1 ≤ r) × (r ≤ mostRoutes) ⌝ }
+    ensures { λ r′. ⌜ r′ ≡ every longestRoute (λ p. leb p count || eqb (segmentAt (now (ways .entry)) r p) 0) ⌝ }
+{
+    let mut p = count;
+    while p < LONGEST_ROUTE {
+        if way_byte(ways, r, p + 1) != 0 {
+            return false;
+        }
+        p += 1;
+    }
+    true
+}
+
+// A record that is all zero. No early return: its 32 bytes are compared at one stroke.
+fn is_blank(ways: &[u8; 960], r: u8) -> bool
+    requires { ⌜ (1 ≤ r) × (r ≤ mostRoutes) ⌝ }
+    ensures { λ r′. ⌜ r′ ≡ every (longestRoute + 1) (λ k. eqb (segmentAt (now (ways .entry)) r (k - 1)) 0) ⌝ }
+{
+    let mut blank = true;
+    let mut p: u8 = 0;
+    while p <= LONGEST_ROUTE {
+        blank = blank & (way_byte(ways, r, p) == 0);
+        p += 1;
+    }
+    blank
 }
 
 fn count_ok(ways: &[u8; 960], routes: u8, r: u8) -> bool
@@ -337,17 +378,32 @@ fn count_ok(ways: &[u8; 960], routes: u8, r: u8) -> bool
     count == 0
 }
 
+// A record above R is zero. A route is walked up to its count, each place with the segment before it.
 fn route_ok<'a>(next: &'a [u8; 124], ways: &'a [u8; 960], n: u8, routes: u8, r: u8) -> bool
+    requires { ⌜ (1 ≤ r) × (r ≤ mostRoutes) ⌝ }
     ensures { λ r′. ⌜ r′ ≡ routeIn (now (next .entry)) (now (ways .entry)) n routes r ⌝ }
 {
+    if routes < r {
+        return is_blank(ways, r);
+    }
     if !count_ok(ways, routes, r) {
         return false;
     }
-    let mut i: u8 = 0;
-    while i < LONGEST_ROUTE {
-        if !step_ok(next, ways, n, r, i + 1) {
+    let count = way_byte(ways, r, 0);
+    if !rest_zero(ways, r, count) {
+        return false;
+    }
+    let mut before = way_byte(ways, r, 1);
+    if !step_ok(next, n, count, 1, count, before) {
+        return false;
+    }
+    let mut i: u8 = 1;
+    while i < count {
+        let segment = way_byte(ways, r, i + 1);
+        if !step_ok(next, n, count, i + 1, before, segment) {
             return false;
         }
+        before = segment;
         i += 1;
     }
     true

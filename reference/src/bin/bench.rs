@@ -6,16 +6,26 @@ use reference::*;
 use std::hint::black_box;
 use std::time::Instant;
 
-/// The least mean of nine rounds, in microseconds.
+/// The mean of so many turns, in microseconds.
+fn round<R>(turns: u32, run: &mut impl FnMut() -> R) -> f64 {
+    let start = Instant::now();
+    for _ in 0..turns {
+        black_box(run());
+    }
+    start.elapsed().as_secs_f64() * 1e6 / f64::from(turns)
+}
+
+/// The least of nine rounds.
 fn time<R>(turns: u32, mut run: impl FnMut() -> R) -> f64 {
-    let mut round = || {
-        let start = Instant::now();
-        for _ in 0..turns {
-            black_box(run());
-        }
-        start.elapsed().as_secs_f64() * 1e6 / f64::from(turns)
-    };
-    (0..9).map(|_| round()).fold(f64::MAX, f64::min)
+    (0..9).map(|_| round(turns, &mut run)).fold(f64::MAX, f64::min)
+}
+
+/// What `with` takes beyond `without`: the middle of the differences of rounds that follow each other, since a machine's speed
+/// changes from second to second.
+fn beyond<R, S>(mut with: impl FnMut() -> R, mut without: impl FnMut() -> S) -> f64 {
+    let mut differences: Vec<f64> = (0..201).map(|_| round(100, &mut with) - round(100, &mut without)).collect();
+    differences.sort_by(f64::total_cmp);
+    differences[100]
 }
 
 fn line(what: &str, core: f64, second: f64) {
@@ -31,26 +41,21 @@ fn loads(name: &str, file: &[u8]) {
 /// One call on a record, less what handing the record over takes.
 fn one_call(name: &str, file: &[u8], area: &Area, call: &Call) -> (f64, f64) {
     let script = words_of(call);
-    let mut answer = [0];
     let before = unit::state_of(&area.record());
-    let mut state = before;
-    let mut run = |script: &[u16]| {
-        time(2000, || {
-            state.copy_from_slice(&before);
-            unit::run_record(file, script, &mut answer, &mut state);
-        })
+    let core_run = |script: &[u16]| {
+        let (mut answer, mut state) = ([0], before);
+        (unit::run_record(file, script, &mut answer, &mut state), state)
     };
-    let core = run(&script) - run(&[]);
-    let with = time(2000, || {
+    let core = beyond(|| core_run(&script), || core_run(&[]));
+    let second_run = |call: Option<&Call>| {
         let mut area = black_box(*area);
-        area.call(call);
-        area
-    });
-    let without = time(2000, || black_box(*area));
+        (call.map(|call| area.call(call)), area)
+    };
+    let second = beyond(|| second_run(Some(call)), || second_run(None));
     let mut after = *area;
     let what = format!("{name} answered {}", after.call(call));
-    line(&what, core, with - without);
-    (core, with - without)
+    line(&what, core, second);
+    (core, second)
 }
 
 /// The calls of a cycle one after the other, an entry and a leave, each on the record where it is due.

@@ -1,6 +1,5 @@
 use Prim.Native.Nat.{_-_}
 use native.Mathlib.Omega.{arith}
-use borrow.Author.Needs.{needs}
 use Rattle.tables.specs.Bounds.{mostRoutes}
 use Rattle.tables.specs.Rules.{routeIn}
 use Rattle.lists.proofs.Loops.{Scanned, scan-begin, scan-over, scan-more, scan-found}
@@ -20,7 +19,7 @@ add-route-ok : tie.Need-add-route-ok Inv-loop μ-loop
 add-route-ok c = omega arith
 
 route-ok-requires : tie.Need-route-ok-requires Inv-loop μ-loop
-route-ok-requires c κs = search needs
+route-ok-requires c κs = omega arith
 
 add-result : tie.Need-add-result Inv-loop μ-loop
 add-result c = omega arith

@@ -1,50 +1,27 @@
-use borrow.Author.Tests.{le-leb, lt-leb}
-use Rattle.tables.specs.Rules.{stepIn}
+use mathlib.Core.Bool.{_&&_}
+use lib.Dec.{leb}
+use borrow.Author.Tests.{le-leb, lt-leb, not-true, not-false}
 use borrow.Author.Needs.{needs}
+use Rattle.tables.specs.Rules.{stepBy}
 use Rattle.tables.proofs.step_ok.Statement.{statement}
 use Rattle.tables.proofs.step_ok.Tie as tie
 
-segment-at-requires : tie.Need-segment-at-requires
-segment-at-requires c κs = search needs
-
-count-of-requires : tie.Need-count-of-requires
-count-of-requires c κs = search needs
-
 returns : tie.Need-returns
-unfolding stepIn
-returns c =
-    let e = rw (c .before .count-of .ensures) at (c .if1 .taken) in
-    simp (c .before .before .segment-at .ensures, lt-leb _ _ e)
+unfolding stepBy
+returns c = simp (lt-leb _ _ (c .if1 .taken))
 
-place-before-requires : tie.Need-place-before-requires
-place-before-requires c κs = search needs
-
-segment-at-requires-2 : tie.Need-segment-at-requires-2
-segment-at-requires-2 c κs = search needs
+returns-2 : tie.Need-returns-2
+unfolding stepBy
+returns-2 c = let a = c .before .before .args in rw (le-leb _ _ (c .before .if1 .left), not-true (leb 1 (a .segment) && leb (a .segment) (a .n)) (c .if2 .taken))
 
 links-to-requires : tie.Need-links-to-requires
 links-to-requires c κs = search needs
 
-returns-2 : tie.Need-returns-2
-unfolding stepIn
-returns-2 c =
-    let e = rw (c .before .before .before .before .count-of .ensures) at (c .before .before .before .if1 .left) in
-    simp (
-      c .before .before .before .before .before .segment-at .ensures,
-      c .before .before .place-before .ensures,
-      c .before .segment-at2 .ensures,
-      c .links-to .ensures,
-      le-leb _ _ e,
-    )
+returns-3 : tie.Need-returns-3
+unfolding stepBy
+returns-3 c =
+    let a = c .before .before .before .args in
+    rw (c .links-to .ensures, le-leb _ _ (c .before .before .if1 .left), not-false (leb 1 (a .segment) && leb (a .segment) (a .n)) (c .before .if2 .left))
 
 pub step-ok-spec : {M : Type 1} → statement M
-step-ok-spec =
-    tie.close
-    (tie.spec
-    segment-at-requires
-    count-of-requires
-    returns
-    place-before-requires
-    segment-at-requires-2
-    links-to-requires
-    returns-2)
+step-ok-spec = tie.close (tie.spec returns returns-2 links-to-requires returns-3)
