@@ -97,6 +97,8 @@ fn unlink(file: &mut [u8], at: usize, slot: usize) -> bool {
     true
 }
 
+// one to a line where it fits, as a table
+#[rustfmt::skip]
 pub const BREAKS: &[Break] = &[
     Break { rule: 1, name: "shorter", change: |_, _, f, w| { f.truncate([0, 2048, 2559][w as usize]); true } },
     Break { rule: 1, name: "longer", change: |_, _, f, w| { f.resize([2561, 3072, 5120][w as usize], 0); true } },

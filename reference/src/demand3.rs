@@ -230,9 +230,7 @@ impl Demand3 {
                     .sum::<u64>();
             let position = on.way - own.start;
             if position + way_to_run >= room {
-                return Err(format!(
-                    "train {number} does not stop within its segments: {position} + {way_to_run} is not less than {room}"
-                ));
+                return Err(format!("train {number} does not stop within its segments: {position} + {way_to_run} is not less than {room}"));
             }
         }
         Ok(())

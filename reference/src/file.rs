@@ -86,10 +86,7 @@ pub fn decode_tables(file: &[u8]) -> Tables {
 /// 3 misfiled: "kind, block number or a zero byte (498-509; 480-495 of routes) wrong".
 fn misfiled(number: usize, block: &[u8]) -> bool {
     let kind = KINDS[number];
-    block[496] != kind
-        || usize::from(block[497]) != number
-        || !all_zero(&block[498..510])
-        || (kind == 3 && !all_zero(&block[480..496]))
+    block[496] != kind || usize::from(block[497]) != number || !all_zero(&block[498..510]) || (kind == 3 && !all_zero(&block[480..496]))
 }
 
 /// "Load tests 1 to 10 in that order, each over the whole file." The tables of an accepted

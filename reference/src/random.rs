@@ -57,24 +57,32 @@ fn speeds(random: &mut Random, lively: bool) -> (u16, u16, u32) {
     }
 }
 
-/// Links that rise, two of each kind a segment at the most.
+/// Links that rise, two of each kind a segment at the most. One time in four a chain, with links over one segment: long routes.
 fn links(random: &mut Random, n: usize) -> (Vec<[u8; 2]>, Vec<[u8; 2]>) {
     let mut next = vec![[0u8; 2]; n];
     let mut previous = vec![[0u8; 2]; n];
-    for from in 0..n {
-        for slot in 0..random.within(0, 2) as usize {
-            if from + 1 == n {
-                break;
+    let mut link = |from: usize, to: usize| {
+        let free = |links: &[u8; 2]| links.iter().position(|&link| link == 0);
+        if let (Some(i), Some(j)) = (free(&next[from]), free(&previous[to])) {
+            if next[from][0] != to as u8 + 1 {
+                next[from][i] = to as u8 + 1;
+                previous[to][j] = from as u8 + 1;
             }
-            // near ahead for the most part, so that routes are long
+        }
+    };
+    let chain = random.one_in(4);
+    for from in 0..n - 1 {
+        if chain {
+            link(from, from + 1);
+            if random.one_in(2) {
+                link(from, (from + 2).min(n - 1));
+            }
+            continue;
+        }
+        for _ in 0..random.within(0, 2) {
+            // near ahead for the most part
             let far = if random.one_in(3) { n - 1 } else { (from + 3).min(n - 1) };
-            let to = random.within(from as u64 + 1, far as u64) as usize;
-            let free = previous[to].iter().position(|&link| link == 0);
-            if let (Some(place), true) = (free, next[from][0] != to as u8 + 1) {
-                let slot = if next[from][0] == 0 { 0 } else { slot };
-                next[from][slot] = to as u8 + 1;
-                previous[to][place] = from as u8 + 1;
-            }
+            link(from, random.within(from as u64 + 1, far as u64) as usize);
         }
     }
     (next, previous)
@@ -95,7 +103,11 @@ pub fn area(random: &mut Random, lively: bool) -> Description {
     }
     let segments: Vec<Segment> = (0..n)
         .map(|s| Segment {
-            length: if lively { random.within(shortest, (shortest + shortest / 4).min(1_000_000)) } else { random.edgy(shortest, 1_000_000) } as u32,
+            length: if lively {
+                random.within(shortest, (shortest + shortest / 4).min(1_000_000))
+            } else {
+                random.edgy(shortest, 1_000_000)
+            } as u32,
             limit: limits[s],
             next: next[s],
             previous: previous[s],
@@ -108,7 +120,7 @@ pub fn area(random: &mut Random, lively: bool) -> Description {
 
 /// A walk along next links.
 fn route(random: &mut Random, segments: &[Segment]) -> Vec<u8> {
-    let mut at = random.within(1, segments.len() as u64) as u8;
+    let mut at = random.edgy(1, segments.len() as u64) as u8;
     let mut route = vec![at];
     let longest = random.edgy(1, 31) as usize;
     while route.len() < longest {

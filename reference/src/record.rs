@@ -44,8 +44,7 @@ pub struct Record {
 
 impl Record {
     /// "Load's refusal gives the blank record, all zero, itself unsound".
-    pub const BLANK: Record =
-        Record { tables: Tables::ZERO, allocations: [0; 62], trains: [RawTrain::OFF; 24], due: SPEED };
+    pub const BLANK: Record = Record { tables: Tables::ZERO, allocations: [0; 62], trains: [RawTrain::OFF; 24], due: SPEED };
 
     /// "A loaded area has no trains; the step due is speed."
     pub fn loaded(tables: Tables) -> Record {
@@ -109,11 +108,7 @@ fn sound_train_on(record: &Record, number: u8) -> bool {
     if !next_is_its_own {
         // "While next is not allocated to it, or there is none: position + B(speed) < length
         // with speed due, position + S(speed) < length with another step due."
-        let way = if record.due == SPEED {
-            b_rest(tables.b.into(), train.speed.into())
-        } else {
-            s(tables.b.into(), train.speed.into())
-        };
+        let way = if record.due == SPEED { b_rest(tables.b.into(), train.speed.into()) } else { s(tables.b.into(), train.speed.into()) };
         if position + way >= length {
             return false;
         }

@@ -69,8 +69,7 @@ impl Route {
 }
 
 impl Tables {
-    pub const ZERO: Tables =
-        Tables { n: 0, r: 0, gmax: 0, b: 0, d: 0, segments: [Segment::ZERO; 62], routes: [Route::ZERO; 30] };
+    pub const ZERO: Tables = Tables { n: 0, r: 0, gmax: 0, b: 0, d: 0, segments: [Segment::ZERO; 62], routes: [Route::ZERO; 30] };
 
     /// Segment by number, 1 to 62.
     pub fn segment(&self, number: u8) -> &Segment {
@@ -137,9 +136,7 @@ impl Tables {
     /// 9 drop: "limit of a next segment + `b` < own limit".
     pub(crate) fn breaks_9(&self, number: u8) -> bool {
         let segment = self.segment(number);
-        segment
-            .next_links()
-            .any(|next| u32::from(self.segment(next).limit) + u32::from(self.b) < u32::from(segment.limit))
+        segment.next_links().any(|next| u32::from(self.segment(next).limit) + u32::from(self.b) < u32::from(segment.limit))
     }
 
     /// 10 route, of the record with this number, 1 to 30.

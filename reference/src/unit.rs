@@ -8,16 +8,36 @@ extern "C" {
     fn rbu_load(file: *const u8, file_len: usize, place: *mut u16) -> u8;
     fn rbu_view(file: *const u8, file_len: usize, route: u16, start: *mut u32, count: *mut u32);
     fn rbu_run_file(
-        file: *const u8, file_len: usize, script: *const u16, script_len: usize, answers: *mut u8, answers_len: usize,
-        state: *mut u8, state_len: usize, number: *mut u8, place: *mut u16,
+        file: *const u8,
+        file_len: usize,
+        script: *const u16,
+        script_len: usize,
+        answers: *mut u8,
+        answers_len: usize,
+        state: *mut u8,
+        state_len: usize,
+        number: *mut u8,
+        place: *mut u16,
     ) -> usize;
     fn rbu_report_file(
-        file: *const u8, file_len: usize, script: *const u16, script_len: usize, answers: *mut u8, answers_len: usize,
-        allocated: *mut u8, free: *mut u8,
+        file: *const u8,
+        file_len: usize,
+        script: *const u16,
+        script_len: usize,
+        answers: *mut u8,
+        answers_len: usize,
+        allocated: *mut u8,
+        free: *mut u8,
     ) -> u8;
     fn rbu_run_record(
-        file: *const u8, file_len: usize, script: *const u16, script_len: usize, answers: *mut u8, answers_len: usize,
-        state: *mut u8, state_len: usize,
+        file: *const u8,
+        file_len: usize,
+        script: *const u16,
+        script_len: usize,
+        answers: *mut u8,
+        answers_len: usize,
+        state: *mut u8,
+        state_len: usize,
     ) -> usize;
     fn rbu_sound(file: *const u8, file_len: usize, state: *const u8, state_len: usize) -> bool;
     fn rbu_report_record(file: *const u8, file_len: usize, state: *const u8, state_len: usize, allocated: *mut u8, free: *mut u8) -> u8;
@@ -46,8 +66,16 @@ pub fn run_file(file: &[u8], script: &[u16], answers: &mut [u8], state: &mut [u8
     let (mut number, mut place) = (0, 0);
     let calls = unsafe {
         rbu_run_file(
-            file.as_ptr(), file.len(), script.as_ptr(), script.len(), answers.as_mut_ptr(), answers.len(),
-            state.as_mut_ptr(), state.len(), &mut number, &mut place,
+            file.as_ptr(),
+            file.len(),
+            script.as_ptr(),
+            script.len(),
+            answers.as_mut_ptr(),
+            answers.len(),
+            state.as_mut_ptr(),
+            state.len(),
+            &mut number,
+            &mut place,
         )
     };
     (Refusal { number, place }, calls)
@@ -58,8 +86,14 @@ pub fn report_file(file: &[u8], script: &[u16], answers: &mut [u8]) -> (u8, u8, 
     let (mut allocated, mut free) = (0, 0);
     let number = unsafe {
         rbu_report_file(
-            file.as_ptr(), file.len(), script.as_ptr(), script.len(), answers.as_mut_ptr(), answers.len(),
-            &mut allocated, &mut free,
+            file.as_ptr(),
+            file.len(),
+            script.as_ptr(),
+            script.len(),
+            answers.as_mut_ptr(),
+            answers.len(),
+            &mut allocated,
+            &mut free,
         )
     };
     (number, allocated, free)
@@ -69,8 +103,14 @@ pub fn report_file(file: &[u8], script: &[u16], answers: &mut [u8]) -> (u8, u8, 
 pub fn run_record(file: &[u8], script: &[u16], answers: &mut [u8], state: &mut [u8]) -> usize {
     unsafe {
         rbu_run_record(
-            file.as_ptr(), file.len(), script.as_ptr(), script.len(), answers.as_mut_ptr(), answers.len(),
-            state.as_mut_ptr(), state.len(),
+            file.as_ptr(),
+            file.len(),
+            script.as_ptr(),
+            script.len(),
+            answers.as_mut_ptr(),
+            answers.len(),
+            state.as_mut_ptr(),
+            state.len(),
         )
     }
 }
@@ -81,9 +121,7 @@ pub fn sound(file: &[u8], state: &[u8]) -> bool {
 
 pub fn report_record(file: &[u8], state: &[u8]) -> (u8, u8, u8) {
     let (mut allocated, mut free) = (0, 0);
-    let number = unsafe {
-        rbu_report_record(file.as_ptr(), file.len(), state.as_ptr(), state.len(), &mut allocated, &mut free)
-    };
+    let number = unsafe { rbu_report_record(file.as_ptr(), file.len(), state.as_ptr(), state.len(), &mut allocated, &mut free) };
     (number, allocated, free)
 }
 

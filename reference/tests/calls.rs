@@ -48,8 +48,7 @@ fn unsound_11() {
     for record in [Record::BLANK, late] {
         assert!(!sound(&record));
         assert!(Area::from_record(&record).is_none());
-        let calls =
-            [Call::Enter { train: 0, route: 1, speed: 1 }, Call::Leave { train: 25 }, Call::Speed { wishes: &[] }];
+        let calls = [Call::Enter { train: 0, route: 1, speed: 1 }, Call::Leave { train: 25 }, Call::Speed { wishes: &[] }];
         for call in calls.iter().chain(&STEPS) {
             assert_eq!(call_on(&record, call), (11, record));
         }

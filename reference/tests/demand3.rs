@@ -305,12 +305,7 @@ fn many_runs() {
                 assert_eq!(before, after);
             }
             left += usize::from(answer == 0 && matches!(call, Call::Leave { .. }));
-            moved_on += before
-                .trains
-                .iter()
-                .zip(&after.trains)
-                .filter(|(was, is)| was.route != 0 && was.place < is.place)
-                .count();
+            moved_on += before.trains.iter().zip(&after.trains).filter(|(was, is)| was.route != 0 && was.place < is.place).count();
         }
     }
     assert!(moved_on > 1000 && left > 100, "{moved_on} moved on, {left} left");

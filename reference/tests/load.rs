@@ -102,9 +102,7 @@ fn header_4() {
     for (at, byte) in [(0, 0), (0, 2), (1, 0), (1, 63), (2, 0), (2, 31), (3, 1), (12, 1), (495, 1)] {
         assert_eq!(with(&[(at, byte)]), (4, 0));
     }
-    for (gmax, b, d) in
-        [(0, 10, 4650), (1001, 10, 1_000_000), (300, 0, 4650), (300, 301, 4650), (300, 10, 0), (300, 10, 1_000_001)]
-    {
+    for (gmax, b, d) in [(0, 10, 4650), (1001, 10, 1_000_000), (300, 0, 4650), (300, 301, 4650), (300, 10, 0), (300, 10, 1_000_001)] {
         assert_eq!(changed(|a| (a.gmax, a.b, a.d) = (gmax, b, d)), (4, 0));
     }
     // at the bounds, the later rules speak
@@ -230,13 +228,7 @@ fn route_10() {
 fn route_of_31_segments() {
     let mut line = area_a();
     line.segments = (1..=62)
-        .map(|k| Segment {
-            length: 4951,
-            limit: 300,
-            next: [if k < 62 { k + 1 } else { 0 }, 0],
-            previous: [k - 1, 0],
-            flags: 3,
-        })
+        .map(|k| Segment { length: 4951, limit: 300, next: [if k < 62 { k + 1 } else { 0 }, 0], previous: [k - 1, 0], flags: 3 })
         .collect();
     line.routes = vec![(1..=31).collect(), (32..=62).collect()];
     assert_eq!(answer(&line.file()), (0, 0));

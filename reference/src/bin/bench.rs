@@ -64,7 +64,8 @@ fn calls(name: &str, description: &Description, trains: u16) {
     let mut area = load(&file).expect("the area is accepted");
     (1..=trains).for_each(|t| assert_eq!(area.enter(t, t, 200), 0));
     let wishes = [300; 24];
-    let cycle = [("speed", Call::Speed { wishes: &wishes }), ("request", Call::Request), ("grant", Call::Grant), ("position", Call::Position)];
+    let cycle =
+        [("speed", Call::Speed { wishes: &wishes }), ("request", Call::Request), ("grant", Call::Grant), ("position", Call::Position)];
     // far enough that trains ask and are granted
     for _ in 0..15 {
         cycle.iter().for_each(|(_, call)| assert_eq!(area.call(call), 0));
@@ -102,6 +103,7 @@ fn replay(name: &str, description: &Description, trains: u16) {
 }
 
 fn main() {
+    println!("the core and the second program on the same inputs; buffers are not cleared between runs");
     println!("{:40} {:>9} {:>9} {:>8}", "microseconds", "core", "second", "ratio");
     loads("Area A", &area_a().file());
     loads("full area", &full_area().file());

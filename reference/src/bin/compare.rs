@@ -39,6 +39,29 @@ struct Files {
     views: u32,
 }
 
+/// The extremes that an accepted area can have.
+const EXTREMES: [(&str, fn(&Description) -> bool); 14] = [
+    ("1 segment", |a| a.segments.len() == 1),
+    ("62 segments", |a| a.segments.len() == 62),
+    ("1 route", |a| a.routes.len() == 1),
+    ("30 routes", |a| a.routes.len() == 30),
+    ("a route of 31", |a| a.routes.iter().any(|route| route.len() == 31)),
+    ("gmax 1", |a| a.gmax == 1),
+    ("gmax 1000", |a| a.gmax == 1000),
+    ("b 1", |a| a.b == 1),
+    ("b = gmax", |a| a.b == a.gmax),
+    ("d = S(gmax)", |a| u64::from(a.d) == s(a.b.into(), a.gmax.into())),
+    ("the least length", |a| a.segments.iter().any(|segment| segment.length == a.d + u32::from(a.gmax) + 1)),
+    ("the greatest length", |a| a.segments.iter().any(|segment| segment.length == 1_000_000)),
+    ("the drop rule met with equality", |a| {
+        let limit = |link: u8| a.segments[usize::from(link) - 1].limit;
+        a.segments.iter().any(|segment| segment.next.iter().any(|&link| link != 0 && limit(link) + a.b == segment.limit))
+    }),
+    ("a merge and a diverge", |a| {
+        a.segments.iter().any(|segment| segment.previous[1] != 0) && a.segments.iter().any(|segment| segment.next[1] != 0)
+    }),
+];
+
 impl Files {
     fn compare(&mut self, random: &mut Random, file: &[u8], what: &str) -> u8 {
         let second = answer(file);
@@ -60,6 +83,7 @@ fn files(seed: u64) {
     let mut random = Random::new(seed);
     let mut seen = Files { seed, count: 0, rules: [0; 11], views: 0 };
     let mut alone = vec![[0u32; 3]; BREAKS.len()];
+    let mut extremes = [0u32; EXTREMES.len()];
     while seen.count < FILES {
         let lively = random.one_in(4);
         let area = random::area(&mut random, lively);
@@ -67,6 +91,9 @@ fn files(seed: u64) {
         if seen.compare(&mut random, &whole, "an area that meets the rules") != 0 {
             println!("compare: an area made to meet the rules is refused: {:?} (seed {seed})", answer(&whole));
             std::process::exit(1);
+        }
+        for ((_, has), count) in EXTREMES.iter().zip(&mut extremes) {
+            *count += u32::from(has(&area));
         }
         for (k, one) in BREAKS.iter().enumerate() {
             for (at, &place) in PLACES.iter().enumerate() {
@@ -106,6 +133,13 @@ fn files(seed: u64) {
         println!("files: answer {rule}: {count}");
         if *count < 500 {
             println!("compare: too few files with answer {rule}");
+            std::process::exit(1);
+        }
+    }
+    for ((name, _), count) in EXTREMES.iter().zip(extremes) {
+        println!("files: accepted, {name}: {count}");
+        if count == 0 {
+            println!("compare: no accepted file had it");
             std::process::exit(1);
         }
     }
@@ -203,7 +237,10 @@ fn lists(seed: u64) {
         list(&mut random, seed, &mut seen);
     }
     println!("lists: {} of {} calls, each answer and each state compared, demand 3 checked after every call", seen.lists, seen.calls);
-    println!("lists: {} requests of trains at a grant, {} segments granted, {} trains moved on, {} left, {} lists cut by the buffer", seen.waited, seen.granted, seen.moved_on, seen.left, seen.cut);
+    println!(
+        "lists: {} requests of trains at a grant, {} segments granted, {} trains moved on, {} left, {} lists cut by the buffer",
+        seen.waited, seen.granted, seen.moved_on, seen.left, seen.cut
+    );
     for number in [0, 12, 13, 14, 15, 16, 17, 18, 19, 20, 21] {
         println!("lists: answer {number}: {}", seen.answers[number]);
         if seen.answers[number] == 0 {
@@ -311,6 +348,31 @@ fn records(seed: u64) {
     }
 }
 
+// ---- Area A
+
+/// Document 01's listing, from both programs.
+fn listing(seed: u64) {
+    let file = area_a().file();
+    let wishes = [300; 24];
+    let mut calls = vec![Call::Enter { train: 1, route: 1, speed: 250 }, Call::Enter { train: 2, route: 2, speed: 200 }];
+    let mut area = load(&file).unwrap_or_else(|refusal| differ(seed, "Area A", 0, refusal));
+    calls.iter().for_each(|call| same(seed, "an entry", 0, area.call(call)));
+    for cycle in 1..=6 {
+        for call in [Call::Speed { wishes: &wishes }, Call::Request, Call::Grant, Call::Position] {
+            same(seed, "a step", 0, area.call(&call));
+            calls.push(call);
+        }
+        let (mut answers, mut state) = ([99; 26], [0; STATE_SIZE]);
+        unit::run_file(&file, &script_of(&calls), &mut answers, &mut state);
+        let core = unit::record_of(&file, &state);
+        same(seed, "the record after a cycle of Area A", core, area.record());
+        for (number, train) in (1..).zip(&core.trains[..2]) {
+            let segment = core.tables.route(train.route).listed()[usize::from(train.place) - 1];
+            println!("listing: {cycle} {number} {segment} {} {}", train.position, train.speed);
+        }
+    }
+}
+
 // ---- braking
 
 fn braking(seed: u64) {
@@ -327,6 +389,7 @@ fn braking(seed: u64) {
 fn main() {
     let seed = std::env::args().nth(1).map_or(1, |word| word.parse().expect("compare: the seed is a number"));
     braking(seed);
+    listing(seed);
     files(seed);
     lists(seed);
     records(seed);
