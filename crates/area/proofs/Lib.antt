@@ -1,4 +1,3 @@
 pub mod Answers
-pub mod Loading
 pub mod Laws
 pub mod Soundness

@@ -1,24 +1,17 @@
--- The test of a sound record decides the facts that it stands for; the blank record is unsound, and one fresh from load is sound.
+-- The test of a sound record decides the facts that it stands for.
 use Prim.Native.Nat.{ℕ, _≤_}
-use mathlib.Core.Path.{_≡_, refl, ap}
+use mathlib.Core.Path.{_≡_}
 use mathlib.Core.Logic.{inl, inr, _↔_}
-use mathlib.Core.Bool.{Bool, true, false}
-use mathlib.Core.List.{List}
+use mathlib.Core.Bool.{Bool, true}
 use native.Mathlib.Omega.{arith}
 use lib.ListN.{length}
 use borrow.Author.Tests.{leb-true, le-leb, eq-eqb}
 use Rattle.lists.specs.Words.{at}
 use Rattle.lists.proofs.Cases.{and-iff, cases, lt-or-le, eq-or-ne}
 use Rattle.lists.proofs.Loops.{every-at, every-all}
-use Rattle.lists.proofs.Numbered.{nth-zero, nth-out, nth-replicate}
+use Rattle.lists.proofs.Numbered.{nth-zero, nth-out}
 use Rattle.tables.specs.Bounds.{mostSegments}
-use Rattle.tables.specs.Tables.{blankTables}
-use Rattle.tables.specs.Rules.{headerIn, meets}
 use Rattle.tables.proofs.Consistency.{consistent, meets-iff}
-use Rattle.reading.specs.Decoding.{decoded}
-use Rattle.reading.specs.Verdict.{accepted}
-use Rattle.reading.proofs.Accepted.{accepted-iff}
-use Rattle.reading.proofs.View.{tables-meet}
 use Rattle.trains.specs.Train.{mostTrains, off, trainAt, ownOf, holdsIn}
 use Rattle.trains.specs.Steps.{low, upperEnd}
 use Rattle.trains.specs.Sound.{trainSound, allocationSound}
@@ -26,7 +19,6 @@ use Rattle.trains.proofs.Safety.{own-is, low-high}
 use Rattle.trains.proofs.Soundness.{train-iff, off-iff, allocation-iff}
 use Rattle.moves.specs.Room.{Room}
 use Rattle.area.specs.declared.Area.{Area}
-use Rattle.area.specs.Load.{fresh, blank}
 use Rattle.area.specs.Sound.{sound}
 use Rattle.area.specs.SoundFacts.{SoundArea}
 
@@ -83,24 +75,6 @@ module _ (a : Area) where
   -- THE CLAIM: the test decides the facts
   pub sound-iff : (sound a ≡ true) ↔ SoundArea a
   sound-iff = (sound-facts, facts-sound)
-
--- THE CLAIM: the blank record is unsound
-pub blank-unsound : sound blank ≡ false
-unfolding sound meets headerIn blank blankTables
-blank-unsound = refl
-
--- THE CLAIM: a record fresh from load is sound
-pub fresh-sound : (file : List ℕ) → accepted file ≡ true → sound (fresh (decoded file)) ≡ true
-unfolding fresh
-fresh-sound file e =
-    facts-sound (fresh (decoded file))
-    (record {
-      tables = tables-meet file (accepted-iff file .0 e);
-      due = omega arith;
-      offs = λ t low high z. nth-replicate off 24 t;
-      ons = λ t low high o. absurd (omega (arith, ap (λ x. x .route) (nth-replicate off 24 t)));
-      allocations = λ s low high. inl (nth-replicate 0 62 s);
-    })
 
 -- THE CLAIM: in a sound record low ≤ the upper end of every train's speed range
 pub range-sound :

@@ -1,5 +1,4 @@
 pub mod Answers
-pub mod Load
 pub mod Sound
 pub mod SoundFacts
 pub mod Calls

@@ -1,7 +1,6 @@
 // An area by value, and its calls: each takes the record and hands it back in an outcome. A refusal hands it back as it came.
 ghost use mathlib.Core.Path.{_≡_};
-ghost use Rattle.area.specs.Answers.{answerOf, numberOf};
-ghost use Rattle.area.specs.Load.{fresh, loaded};
+ghost use Rattle.area.specs.Answers.{answerOf, numberOf, placeOf};
 ghost use Rattle.area.specs.Sound.{sound};
 ghost use Rattle.area.specs.Calls.{outcome, routeTests, afterEnter, enterCall, leaveCall, speedCall, requestCall, grantCall, positionCall, reported};
 use tables::Tables;
@@ -33,7 +32,7 @@ pub struct Report {
     pub free: u8,
 }
 
-fn answer_of(number: u8, place: u16) -> Answer
+pub fn answer_of(number: u8, place: u16) -> Answer
     ensures { λ r. ⌜ r ≡ answerOf number place ⌝ }
 {
     if number == 0 {
@@ -52,6 +51,16 @@ pub fn number_of(answer: Answer) -> u8
     }
 }
 
+// The place that an answer names, 0 where it names none.
+pub fn place_of(answer: Answer) -> u16
+    ensures { λ r. ⌜ r ≡ placeOf answer ⌝ }
+{
+    match answer {
+        Answer::Done => 0,
+        Answer::Refused { number, place } => place,
+    }
+}
+
 fn refused(area: Area, number: u8) -> Outcome
     ensures { λ r. ⌜ r ≡ record { answer = answerOf number 0; area = area } ⌝ }
 {
@@ -67,31 +76,6 @@ fn done(area: Area) -> Outcome
     Outcome {
         answer: answer_of(0, 0),
         area,
-    }
-}
-
-fn fresh_area(tables: Tables) -> Area
-    ensures { λ r. ⌜ r ≡ fresh tables ⌝ }
-{
-    let off = trains::train_off();
-    Area {
-        tables,
-        allocations: [0; 62],
-        trains: [off; 24],
-        due: 0,
-    }
-}
-
-// The area of a file, or the blank record with the number and the place of the first rule that the file breaks.
-pub fn load(file: &[u8]) -> Outcome
-    ensures { λ r. ⌜ r ≡ loaded (now (file .entry)) ⌝ }
-{
-    let reading = reading::read(file);
-    let answer = answer_of(reading.number, reading.place);
-    let tables = reading.tables;
-    Outcome {
-        answer,
-        area: fresh_area(tables),
     }
 }
 
@@ -133,7 +117,7 @@ impl Area {
         ensures { λ r. ⌜ r ≡ sound self ⌝ }
     {
         let tables = self.tables;
-        if !tables::tables_meet(tables) {
+        if !rules::tables_meet(tables) {
             return false;
         }
         let due = self.due;

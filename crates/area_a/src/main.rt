@@ -12,7 +12,7 @@ fn refused(call: &[u8], answer: Answer) -> bool {
     }
     io::write_all(STDOUT_FILENO, call);
     io::write_all(STDOUT_FILENO, b": ");
-    console::say_answer(answer);
+    wording::say_answer(area::number_of(answer), area::place_of(answer));
     true
 }
 
@@ -70,7 +70,7 @@ fn run_cycles(entered: Area) {
 }
 
 fn run_file(file: &[u8]) {
-    let loaded = area::load(file);
+    let loaded = loading::load(file);
     let answer = loaded.answer;
     if refused(b"load", answer) {
         return;

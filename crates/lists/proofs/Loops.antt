@@ -8,7 +8,7 @@
 use mathlib.Core.Path.{_≡_, refl, sym, ap, _∙_}
 use mathlib.Core.List.{List, [], _∷_, foldl, foldl-append}
 use mathlib.Core.Logic.{⊎-elim}
-use mathlib.Core.Bool.{Bool, true, false, not, and-false}
+use mathlib.Core.Bool.{Bool, true, false, not, _&&_, and-false}
 use Prim.Native.Nat.{ℕ, zero, suc, _+_, _-_, _≤_, _<_}
 use native.Mathlib.Nat.{le-of-suc-le-suc, not-suc-le-zero, eq-or-lt-of-le}
 use native.Mathlib.Numerals.{add-one}
@@ -25,6 +25,10 @@ module _ (p : ℕ → Bool) where
   pub every-none : every 0 p ≡ true
   unfolding every
   every-none = refl
+
+  pub every-next : (i : ℕ) → every (i + 1) p ≡ (every i p && p (i + 1))
+  unfolding every
+  every-next i = rw add-one
 
   pub every-more : (i : ℕ) → every i p ≡ true → p (i + 1) ≡ true → every (i + 1) p ≡ true
   unfolding every

@@ -1,6 +1,6 @@
 -- Laws of entries by number, of `each` and of `tabulate`.
 use mathlib.Core.Path.{_≡_, refl, sym, ap, _∙_}
-use mathlib.Core.List.{List, [], _∷_, map}
+use mathlib.Core.List.{List, [], _∷_, _++_, map}
 use Prim.Native.Nat.{ℕ, zero, suc, _+_, _-_, _≤_, _<_}
 use native.Mathlib.Nat.{le-of-suc-le-suc, not-suc-le-zero}
 use native.Mathlib.Numerals.{add-one}
@@ -10,6 +10,7 @@ use lib.Dec.{eqb, eqb·suc-suc}
 use borrow.Author.Tests.{ne-eqb}
 use mathlib.Core.Logic.{_⊎_, ⊎-elim}
 use Rattle.lists.specs.Words.{if_then_else_, nth, each, tabulate}
+use Rattle.lists.proofs.Cases.{cases, lt-or-le}
 
 module _ {A : Type 0} (none : A) where
   pub nth-zero : (l : List A) (n : ℕ) → n ≡ 0 → nth none l n ≡ none
@@ -106,3 +107,47 @@ pub store-none : {A : Type 0} (l : List A) (n : ℕ) (x : A) → (n < 1) ⊎ (le
 store-none l n x out =
     each-keeps (stored n x) l
     (λ k y low high. rw (ne-eqb k n (λ e. ⊎-elim (λ o. omega arith) (λ o. omega arith) out)))
+
+module _ {A B : Type 0} where
+  pub length-each : (f : ℕ → A → B) (l : List A) → length (each f l) ≡ length l
+  unfolding each
+  length-each f [] = refl
+  length-each f (x ∷ l) = ap suc (length-each (λ (k : ℕ). f (suc k)) l)
+
+  -- an entry of `each` that the list has
+  pub nth-each-in : (a : A) (b : B) (f : ℕ → A → B) (l : List A) (n : ℕ) → 1 ≤ n → n ≤ length l → nth b (each f l) n ≡ f n (nth a l n)
+  unfolding nth each
+  nth-each-in a b f l zero h g = absurd (not-suc-le-zero h)
+  nth-each-in a b f [] (suc n) h g = absurd (not-suc-le-zero g)
+  nth-each-in a b f (x ∷ l) (suc zero) h g = refl
+  nth-each-in a b f (x ∷ l) (suc (suc n)) h g = nth-each-in a b (λ (k : ℕ). f (suc k)) l (suc n) (omega arith) (le-of-suc-le-suc g)
+
+module _ {A : Type 0} (none : A) where
+  -- an entry of number 1 to the list's length, or none
+  pub nth-where : (l : List A) (n : ℕ) (P : Type 0) → (1 ≤ n → n ≤ length l → P) → (nth none l n ≡ none → P) → P
+  nth-where l n P inside outside =
+      cases (lt-or-le n 1) (λ z. outside (nth-zero none l n (omega arith)))
+      (λ low. cases (lt-or-le (length l) n) (λ h. outside (nth-out none l n h)) (λ high. inside low high))
+
+  -- an entry after a store at a number of the list
+  pub nth-stored : (l : List A) (m : ℕ) (x : A) → 1 ≤ m → m ≤ length l → (n : ℕ) → nth none (each (stored m x) l) n ≡ stored m x n (nth none l n)
+  nth-stored l m x low high n =
+      cases (lt-or-le n 1)
+      (λ z. nth-zero none (each (stored m x) l) n (omega arith) ∙ sym (rw (ne-eqb n m (λ e. omega arith)) (nth-zero none l n (omega arith))))
+      (λ from.
+      cases (lt-or-le (length l) n)
+      (λ above. nth-out none (each (stored m x) l) n (rw (length-each (stored m x) l) above) ∙ sym (rw (ne-eqb n m (λ e. omega arith)) (nth-out none l n above)))
+      (λ to. nth-each-in none none (stored m x) l n from to))
+
+  -- what holds of every entry of a list, and of one more
+  pub nth-more : (P : A → Type 0) (l : List A) (x : A) → P none → ((k : ℕ) → P (nth none l k)) → P x → (k : ℕ) → P (nth none (l ++ (x ∷ [])) k)
+  unfolding nth
+  nth-more P l x n f p zero = n
+  nth-more P [] x n f p (suc zero) = p
+  nth-more P [] x n f p (suc (suc k)) = n
+  nth-more P (y ∷ l) x n f p (suc zero) = f 1
+  nth-more P (y ∷ l) x n f p (suc (suc k)) = nth-more P l x n (λ j. rest j) p (suc k)
+    where
+      rest : (j : ℕ) → P (nth none l j)
+      rest zero = n
+      rest (suc j) = f (suc (suc j))

@@ -6,7 +6,7 @@ use mathlib.Core.Bool.{Bool, true, false, not, _&&_, _||_, and-eq-true-iff}
 use mathlib.Core.List.{List, [], _∷_}
 use native.Mathlib.Omega.{arith}
 use lib.Dec.{leb, ltb, eqb}
-use borrow.Author.Tests.{ltb-true, lt-ltb, le-ltb, le-leb, lt-leb, eq-eqb, ne-eqb, not-false}
+use borrow.Author.Tests.{eqb-true, ltb-true, lt-ltb, le-ltb, le-leb, lt-leb, eq-eqb, ne-eqb, not-false}
 use Rattle.lists.specs.Words.{if_then_else_}
 use Rattle.lists.specs.Tests.{Test, _⇒_, _⇒_place_, firstOf, conditionOf, placeNamed}
 use Rattle.lists.proofs.Cases.{if-case, by-test, cases, lt-or-le, eq-or-ne, not-both, facts, test-fails, test-holds}
@@ -147,3 +147,19 @@ module _ {A : Type 0} {by : Test → A} {whole : A} {n p : ℕ} {tests : List Te
 
     pub leave-some : (x ≡ 0 → ⊥) → Left by whole tests
     leave-some h = let some : 0 < x = omega arith in leave left (rw (lt-ltb 0 x some))
+
+-- no test of the list names a place
+abbrev pub placeless : List Test → Bool
+placeless [] = true
+placeless (t ∷ ts) = eqb (t .place) 0 && placeless ts
+
+pub first-placeless : (ts : List Test) → placeless ts ≡ true → firstOf ts .place ≡ 0
+first-placeless [] e = refl
+first-placeless (t ∷ ts) e = go (t .holds) (first-placeless ts)
+  where
+    both : (eqb (t .place) 0 ≡ true) × (placeless ts ≡ true)
+    both = and-eq-true-iff (eqb (t .place) 0) (placeless ts) .0 e
+
+    go : (b : Bool) → (placeless ts ≡ true → firstOf ts .place ≡ 0) → (if b then t else firstOf ts) .place ≡ 0
+    go true rest = eqb-true (t .place) 0 (both .0)
+    go false rest = rest (both .1)

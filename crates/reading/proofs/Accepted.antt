@@ -1,4 +1,4 @@
--- A file is accepted if and only if it meets the ten rules; and what a refusal's place is.
+-- A file is accepted if and only if it meets the ten rules; what a refusal's place is; and the facts of an accepted file's tables.
 use Prim.Native.Nat.{ℕ, _+_, _-_, _≤_, _<_}
 use mathlib.Core.Path.{_≡_, refl, sym, ap, _∙_}
 use mathlib.Core.Bool.{Bool, true, false}
@@ -10,13 +10,15 @@ use lib.ListN.{length}
 use borrow.Author.Tests.{eqb-true, ltb-true, ltb-false, eq-eqb, le-ltb, not-true, not-false}
 use Rattle.lists.specs.Words.{firstFailing}
 use Rattle.lists.specs.Tests.{Test, conditionOf, placeNamed}
-use Rattle.lists.proofs.Cases.{by-test}
+use Rattle.lists.proofs.Cases.{by-test, and-iff}
 use Rattle.lists.proofs.Refusals.{passed, first-named, first-none, first-number}
 use Rattle.lists.proofs.Loops.{failing-le, failing-fails, failing-before, failing-none, none-failing}
 use Rattle.file.specs.Blocks.{blocks, fileSize, block, intact, filed, firstDamaged, firstMisfiled}
 use Rattle.tables.specs.Bounds.{mostSegments, mostRoutes}
 use Rattle.tables.specs.Rules.{jointOk, orderOk, dropOk, routeOk}
-use Rattle.reading.specs.Decoding.{decoded}
+use Rattle.tables.specs.Facts.{Meets, Consistent}
+use Rattle.tables.proofs.Consistency.{consistent}
+use Rattle.decoding.specs.Decoding.{decoded}
 use Rattle.reading.specs.Verdict.{recordOk, fileTests, tableTests, verdict, accepted}
 use Rattle.reading.specs.Acceptance.{MeetsRules, LeastBroken, LeastBlock, Placed}
 
@@ -132,3 +134,20 @@ module _ (file : List ℕ) where
         drop = λ e. rw (named 9 (omega arith) e .1) (somewhere (decoded file .segments) (dropOk (decoded file)) (named 9 (omega arith) e .0));
         route = λ e. rw (named 10 (omega arith) e .1) (somewhere mostRoutes (routeOk (decoded file)) (named 10 (omega arith) e .0));
       }
+
+-- the tables of a file that meets the ten rules meet 4 to 10
+pub tables-meet : (file : List ℕ) → MeetsRules file → Meets (decoded file)
+unfolding recordOk
+tables-meet file m =
+    record {
+      header = (simp and-iff at (m .header)) .1;
+      margin = m .margin;
+      segment = λ s low high. (simp and-iff at (m .segment s low high)) .0;
+      joint = m .joint;
+      order = m .order;
+      drop = m .drop;
+      route = m .route;
+    }
+
+pub file-consistent : (file : List ℕ) → accepted file ≡ true → Consistent (decoded file)
+file-consistent file e = consistent (decoded file) (tables-meet file (accepted-iff file .0 e))

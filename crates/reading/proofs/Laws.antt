@@ -1,18 +1,14 @@
--- The refusals of a reading at a first block or number, and what a reading tells of a route.
+-- The refusals of a reading at a first block or number.
 use Prim.Native.Nat.{ℕ, _-_, _≤_, _<_}
 use mathlib.Core.Path.{_≡_}
-use mathlib.Core.Bool.{_&&_}
 use mathlib.Core.List.{List, _∷_}
-use lib.Dec.{ltb, leb, eqb}
+use lib.Dec.{ltb}
 use borrow.Author.Tests.{lt-ltb, le-ltb}
 use Rattle.lists.specs.Tests.{Test, _⇒_place_}
-use Rattle.lists.proofs.Cases.{by-test}
 use Rattle.lists.proofs.Refusals.{Left, refuse, leave}
 use Rattle.tables.specs.declared.Tables.{Tables}
 use Rattle.reading.specs.declared.Reading.{Reading}
-use Rattle.reading.specs.Verdict.{verdict, atBlock, atNumber, refusedReading, readingBy, readingOf}
-use Rattle.reading.specs.View.{shown}
-use Rattle.reading.proofs.Accepted.{number-zero}
+use Rattle.reading.specs.Verdict.{atBlock, atNumber, refusedReading, readingBy}
 
 -- some tests are left to decide what the reading is
 abbrev pub LeftReading : Reading → Tables → List Test → Type 0
@@ -28,10 +24,3 @@ module _ {r k : ℕ} (found : r ≡ k) {reading : Reading} {T : Tables} {n : ℕ
 
   pub leave-none : {p : ℕ} → LeftReading reading T (ltb 0 k ⇒ n place p ∷ tests) → r ≤ 0 → LeftReading reading T tests
   leave-none left h = leave left (le-ltb 0 k (rw found at h))
-
--- what a reading tells of a route number
-pub shown-by :
-    (file : List ℕ) (r : ℕ)
-    → (eqb (readingOf file .number) 0 && leb 1 r && leb r (readingOf file .tables .routes)) ≡ shown file r
-unfolding readingOf shown
-shown-by file r = by-test (verdict file .holds) (λ h. simp (h, number-zero file)) (λ h. simp h)

@@ -7,7 +7,7 @@ use lib.ListN.{length}
 use Rattle.file.specs.Blocks.{blocks, fileSize, block, intact, filed}
 use Rattle.tables.specs.Bounds.{mostSegments, mostRoutes}
 use Rattle.tables.specs.Rules.{headerOk, marginOk, jointOk, orderOk, dropOk, routeOk}
-use Rattle.reading.specs.Decoding.{decoded}
+use Rattle.decoding.specs.Decoding.{decoded}
 use Rattle.reading.specs.Verdict.{headerFiled, recordOk, verdict}
 
 -- the file meets rule 1, .. rule 10

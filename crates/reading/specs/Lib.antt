@@ -1,4 +1,2 @@
-pub mod Decoding
 pub mod Verdict
-pub mod View
 pub mod Acceptance

@@ -12,7 +12,7 @@ use Rattle.tables.specs.declared.Tables.{Tables}
 use Rattle.tables.specs.Bounds.{mostSegments, mostRoutes}
 use Rattle.tables.specs.Tables.{blankTables}
 use Rattle.tables.specs.Rules.{headerOk, marginOk, segmentOk, jointOk, orderOk, dropOk, routeOk}
-use Rattle.reading.specs.Decoding.{segmentBlock, segmentStart, decoded}
+use Rattle.decoding.specs.Decoding.{segmentBlock, segmentStart, decoded}
 use Rattle.reading.specs.declared.Reading.{Reading}
 
 -- rule 4 of what the tables do not keep: byte 0 version 1, byte 3 zero, 12-495 zero

@@ -1,81 +1,17 @@
 // The bench tool: reads an area file and after it a script of calls from standard input, runs them, and prints the answer to each
 // and the state that they come to. An input that it cannot take whole is refused before anything is run.
-ghost use mathlib.Core.Path.{_≡_};
-ghost use Prim.Native.Nat.{_+_, _/_};
-ghost use lib.ListN.{length, take, drop};
-ghost use Rattle.lists.specs.Words.{tabulate, firstFailing};
-ghost use Rattle.file.specs.Blocks.{fileSize};
-ghost use Rattle.replay.specs.Input.{wordIn, kindKnown};
 use area::Area;
 use libc::STDERR_FILENO;
 use libc::STDOUT_FILENO;
 use trains::Train;
 
-// Calls, and the words and bytes that spell them: 32 and 64 a call.
+// Calls, and the bytes that spell them: 64 a call.
 const MOST_CALLS: usize = 1000;
-
-const MOST_WORDS: usize = 32000;
 
 const MOST_BYTES: usize = 64000;
 
 // Room for a file, the longest script and one byte more, so that a longer input is seen to be longer.
 const INPUT_ROOM: usize = 66561;
-
-// ---- what the input holds
-fn file_in(input: &[u8]) -> &[u8]
-    ensures { λ r. ⌜ now r ≡ take fileSize (now (input .entry)) ⌝ }
-{
-    let n = input.len();
-    if n < file::FILE_SIZE {
-        return &input[0..n];
-    }
-    &input[0..file::FILE_SIZE]
-}
-
-fn script_in(input: &[u8]) -> &[u8]
-    ensures { λ r. ⌜ now r ≡ drop fileSize (now (input .entry)) ⌝ }
-{
-    let n = input.len();
-    if n < file::FILE_SIZE {
-        return &input[n..n];
-    }
-    &input[file::FILE_SIZE..n]
-}
-
-// Word i + 1 of a script.
-fn word_in(script: &[u8], i: u32) -> u16
-    ensures { λ r. ⌜ r ≡ wordIn (now (script .entry)) (i + 1) ⌝ }
-{
-    let at = 2 * (i as usize);
-    let low = file::byte(script, at);
-    let high = file::byte(script, at + 1);
-    (low as u16) + 256 * (high as u16)
-}
-
-// The words of a script, and zeros after them.
-fn words_of(script: &[u8]) -> [u16; MOST_WORDS]
-    ensures { λ r. ⌜ r ≡ tabulate 32000 (wordIn (now (script .entry))) ⌝ }
-{
-    let mut words = [0u16; MOST_WORDS];
-    for i in 0..MOST_WORDS {
-        words[i] = word_in(script, i as u32);
-    }
-    words
-}
-
-// The first record that is of none of the six kinds, counted from 1; 0 where there is none.
-fn first_unknown(words: &[u16]) -> usize
-    ensures { λ r. ⌜ r ≡ firstFailing (length (now (words .entry)) / 32) (kindKnown (now (words .entry))) ⌝ }
-{
-    let records = words.len() / 32;
-    for k in 0..records {
-        let kind = lists::entry_u16(words, 32 * k + 1);
-        if !((1 <= kind) & (kind <= 6)) {
-            return k + 1;
-        }
-    }
-    0
-}
 
 // ---- what is printed of a state
 fn say_train(trains: [Train; 24], t: u8) {
@@ -148,7 +84,7 @@ fn refuse(text: &[u8]) {
 
 // Whether a record is of none of the six kinds; if so, says which.
 fn refuse_unknown(words: &[u16]) -> bool {
-    let record = first_unknown(words);
+    let record = input::first_unknown(words);
     if record == 0 {
         return false;
     }
@@ -165,8 +101,8 @@ fn run(file: &[u8], words: &[u16]) {
     let mut answers = [0u8; MOST_CALLS];
     let ran = runs::run_file(file, words, &mut answers);
     let answer = ran.answer;
-    io::write_all(STDOUT_FILENO, b"load ");
-    console::say_place(answer);
+    console::say_number(b"load ", area::number_of(answer) as u64);
+    console::say_number(b" ", area::place_of(answer) as u64);
     io::write_all(STDOUT_FILENO, b"\n");
     if area::number_of(answer) != 0 {
         return;
@@ -176,7 +112,7 @@ fn run(file: &[u8], words: &[u16]) {
 }
 
 fn replay(input: &[u8]) {
-    let script = script_in(input);
+    let script = input::script_in(input);
     let n = script.len();
     if MOST_BYTES < n {
         refuse(b"the script is longer than 1000 calls\n");
@@ -186,12 +122,12 @@ fn replay(input: &[u8]) {
         refuse(b"the script does not end with a whole record of 64 bytes\n");
         return;
     }
-    let words = words_of(script);
+    let words = input::words_of(script);
     let calls = &words[0..n / 2];
     if refuse_unknown(calls) {
         return;
     }
-    run(file_in(input), calls);
+    run(input::file_in(input), calls);
 }
 
 fn main() {

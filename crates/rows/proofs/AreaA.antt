@@ -10,14 +10,14 @@ use Rattle.lists.proofs.Loops.{every-at, least-same}
 use Rattle.braking.specs.Braking.{fallingSum, S}
 use Rattle.file.specs.Bytes.{half, word, zeros}
 use Rattle.file.specs.Blocks.{fileSize, block, sums, intact, kindOf, filed, firstDamaged, firstMisfiled}
-use Rattle.reading.specs.Decoding.{segmentBlock, lengthIn, limitIn, linkIn, flagsIn, wayIn, decoded}
+use Rattle.decoding.specs.Decoding.{segmentBlock, lengthIn, limitIn, linkIn, flagsIn, wayIn, decoded}
 use Rattle.reading.specs.Verdict.{headerFiled, reserved, recordOk, atBlock, atNumber, verdict}
 use Rattle.tables.specs.declared.Tables.{Tables}
 use Rattle.tables.specs.Bounds.{mostSegments, mostRoutes}
 use Rattle.tables.specs.Tables.{linksTo, countOf, segmentAt}
 use Rattle.tables.specs.Rules.{headerIn, headerOk, marginOk, linksOk, usedOk, unusedOk, rowOk, segmentOk, matched, jointIn, jointOk, orderIn, orderOk, dropIn, dropOk, stepBy, stepIn, countIn, routeIn, routeOk}
 use Rattle.area.specs.Answers.{answerOf}
-use Rattle.area.specs.Load.{loaded}
+use Rattle.loading.specs.Load.{loaded}
 use Rattle.rows.specs.AreaA.{two, four, header, segments, noSegments, routes, noRoutes, file}
 
 -- the tables of Area A

@@ -6,17 +6,17 @@ use Rattle.braking.specs.Braking.{fallingSum, S, B}
 use Rattle.tables.specs.Tables.{countOf, segmentAt}
 use Rattle.tables.specs.Rules.{meets}
 use Rattle.tables.proofs.Consistency.{meets-iff}
-use Rattle.reading.specs.Decoding.{decoded}
-use Rattle.reading.proofs.View.{tables-meet}
+use Rattle.decoding.specs.Decoding.{decoded}
+use Rattle.reading.proofs.Accepted.{tables-meet}
 use Rattle.trains.specs.Train.{trainAt, ownIn, nextIn, nearIn, holdsIn}
 use Rattle.trains.specs.Steps.{wantsIn, movesIn, movedIn}
 use Rattle.trains.specs.Sound.{placeIn, runIn, brakingIn, askingIn, trainSound, allocationSound}
 use Rattle.area.specs.declared.Answer.the-variants.{Done, Refused}
 use Rattle.area.specs.Answers.{answerOf, numberOf}
-use Rattle.area.specs.Load.{loaded}
+use Rattle.loading.specs.Load.{loaded}
 use Rattle.area.specs.Sound.{sound}
 use Rattle.area.specs.Calls.{afterPosition, positionCall}
-use Rattle.area.proofs.Loading.{done-iff}
+use Rattle.loading.proofs.Loading.{done-iff}
 use Rattle.rows.specs.AreaA.{header, segments, file, headerA, segmentsA, moving}
 use Rattle.rows.specs.Table.{holds, allHold, table}
 use Rattle.rows.proofs.AreaA.{tablesOf, tables, left, found, answered}

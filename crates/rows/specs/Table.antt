@@ -7,7 +7,7 @@ use Rattle.braking.specs.Braking.{S, B}
 use Rattle.trains.specs.Train.{trainAt}
 use Rattle.area.specs.declared.Area.{Area}
 use Rattle.area.specs.Answers.{numberOf, placeOf}
-use Rattle.area.specs.Load.{loaded}
+use Rattle.loading.specs.Load.{loaded}
 use Rattle.area.specs.Calls.{positionCall}
 use Rattle.rows.specs.AreaA.{header, segments, file, headerA, segmentsA, moving}
 

@@ -10,11 +10,11 @@ use lib.Seq.{drop-drop, drop-set-lt, take-suc-set}
 use borrow.Author.Tests.{eq-eqb, ne-eqb}
 use Rattle.lists.specs.Words.{if_then_else_}
 use Rattle.lists.proofs.Cases.{facts}
-use Rattle.reading.specs.Decoding.{decoded}
+use Rattle.decoding.specs.Decoding.{decoded}
 use Rattle.area.specs.declared.Area.{Area}
 use Rattle.area.specs.declared.Outcome.{Outcome}
 use Rattle.area.specs.Answers.{numberOf}
-use Rattle.area.specs.Load.{loaded}
+use Rattle.loading.specs.Load.{loaded}
 use Rattle.separation.specs.Calls.{Call, called}
 use Rattle.separation.specs.Runs.{World, next, afterFrom, begin, after}
 use Rattle.separation.specs.Claim.{Separated}

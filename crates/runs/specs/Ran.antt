@@ -5,7 +5,7 @@ use lib.ListN.{length, drop}
 use Rattle.lists.specs.Words.{if_then_else_}
 use Rattle.area.specs.declared.Area.{Area}
 use Rattle.area.specs.Answers.{numberOf}
-use Rattle.area.specs.Load.{loaded}
+use Rattle.loading.specs.Load.{loaded}
 use Rattle.separation.specs.Runs.{World, isDone, afterFrom, begin, after}
 use Rattle.runs.specs.declared.Ran.{Ran}
 use Rattle.runs.specs.declared.FileRan.{FileRan}

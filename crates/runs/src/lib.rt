@@ -2,7 +2,7 @@
 // calls that the script spells.
 ghost use mathlib.Core.Path.{_≡_};
 ghost use lib.ListN.{length, getD, take, drop};
-ghost use Rattle.reading.specs.Decoding.{decoded};
+ghost use Rattle.decoding.specs.Decoding.{decoded};
 ghost use Rattle.area.specs.Answers.{numberOf};
 ghost use Rattle.separation.specs.Calls.{called};
 ghost use Rattle.separation.specs.Claim.{Separated};
@@ -111,7 +111,7 @@ pub fn run_file(file: &[u8], script: &[u16], answers: &mut [u8]) -> FileRan
     ensures { λ r. ⌜ now (answers .exit) ≡ fileWritten (now (file .entry)) (now (script .entry)) (now (answers .entry)) ⌝ }
     ensures { λ r. ⌜ (numberOf (r .answer) ≡ 0 → Separated (decoded (now (file .entry))) (fileWorld (now (file .entry)) (now (script .entry)) (length (now (answers .entry))))) ⌝ }
 {
-    let o = area::load(file);
+    let o = loading::load(file);
     let answer = o.answer;
     let loaded = o.area;
     let number = area::number_of(answer);

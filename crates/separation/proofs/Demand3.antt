@@ -6,25 +6,24 @@ use mathlib.Core.List.{List, [], _∷_}
 use native.Mathlib.Omega.{arith}
 use Rattle.lists.specs.Words.{nth}
 use Rattle.lists.proofs.Cases.{not-both}
-use Rattle.lists.proofs.Numbered.{nth-replicate}
+use Rattle.lists.proofs.Numbered.{nth-replicate, nth-more}
 use Rattle.tables.specs.declared.Tables.{Tables}
 use Rattle.tables.specs.Facts.{Meets}
 use Rattle.tables.proofs.Consistency.{consistent}
-use Rattle.reading.specs.Decoding.{decoded}
+use Rattle.decoding.specs.Decoding.{decoded}
 use Rattle.reading.proofs.Accepted.{accepted-iff}
-use Rattle.reading.proofs.View.{tables-meet}
+use Rattle.reading.proofs.Accepted.{tables-meet}
 use Rattle.trains.specs.Train.{off}
 use Rattle.area.specs.declared.Answer.{Answer}
 use Rattle.area.specs.declared.Answer.the-variants.{Done}
 use Rattle.area.specs.declared.Area.{Area}
 use Rattle.area.specs.declared.Outcome.{Outcome}
 use Rattle.area.specs.Answers.{numberOf, placeOf}
-use Rattle.area.specs.Load.{fresh, loaded}
-use Rattle.area.proofs.Loading.{done-iff, done-fresh}
+use Rattle.loading.specs.Load.{fresh, loaded}
+use Rattle.loading.proofs.Loading.{done-iff, done-fresh}
 use Rattle.separation.specs.Calls.{Call, called}
 use Rattle.separation.specs.Runs.{World, worldBy, next, afterFrom, begin, after}
 use Rattle.separation.specs.Claim.{Separated, Demand3}
-use Rattle.separation.proofs.Laws.{nth-more}
 use Rattle.separation.proofs.Kept.{Kept, on-same, kept-sound}
 use Rattle.separation.proofs.Going.{KeptIn, Went, went-called}
 use Rattle.separation.proofs.Fields.{is-apart, is-allocated, is-slow, is-only, is-stopping, has-own, here, is-position}

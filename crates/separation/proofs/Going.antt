@@ -9,7 +9,7 @@ use borrow.Author.Tests.{eqb-true, ltb-false, not-false}
 use Rattle.lists.specs.Words.{if_then_else_, at}
 use Rattle.lists.specs.Tests.{Test, firstOf, conditionOf}
 use Rattle.lists.proofs.Cases.{by-test, not-both, facts}
-use Rattle.lists.proofs.Refusals.{passed, rising, first-named, first-none, first-number}
+use Rattle.lists.proofs.Refusals.{passed, rising, first-named, first-none, first-number, placeless, first-placeless}
 use Rattle.tables.specs.Facts.{Meets}
 use Rattle.tables.proofs.Consistency.{consistent}
 use Rattle.trains.specs.Steps.{firstSegment}
@@ -21,7 +21,6 @@ use Rattle.area.specs.Calls.{outcome, enterTests, leaveTests, speedTests, stepT
 use Rattle.area.proofs.Answers.{number-of-answer, place-of-answer}
 use Rattle.separation.specs.Calls.{Call, Enter, Leave, Speed, Request, Grant, Position, called}
 use Rattle.separation.specs.Runs.{History, noted, isDone}
-use Rattle.separation.proofs.Laws.{placeless, first-placeless}
 use Rattle.separation.proofs.Kept.{Kept, kept-sound}
 use Rattle.separation.proofs.Keeping.{keep-speed, keep-request, keep-grant, keep-position, keep-leave, keep-enter}
 

@@ -10,7 +10,7 @@ use lib.ListN.{length}
 use borrow.Author.Tests.{eq-eqb, ne-eqb}
 use Rattle.lists.specs.Words.{at, each}
 use Rattle.lists.proofs.Cases.{if-case, by-test, cases, lt-or-le, eq-or-ne, not-both, either-yes}
-use Rattle.lists.proofs.Numbered.{nth-zero, nth-each}
+use Rattle.lists.proofs.Numbered.{nth-zero, nth-each, length-each, nth-each-in, nth-where, nth-stored}
 use Rattle.tables.specs.declared.Tables.{Tables}
 use Rattle.tables.specs.Facts.{Consistent, IsSegment}
 use Rattle.trains.specs.declared.Train.{Train}
@@ -19,7 +19,6 @@ use Rattle.trains.specs.Steps.{sped, requested, granted, calmed, movesIn, moved
 use Rattle.trains.proofs.Safety.{TrainOk, frame, speed-ok, request-ok, grant-ok, position-ok, enter-ok}
 use Rattle.trains.proofs.Grant.{AsksFor, grant-keeps, grant-asked}
 use Rattle.separation.specs.Runs.{History, put, atEnter, atLeave, atGrant, atPosition}
-use Rattle.separation.proofs.Laws.{length-each, nth-each-in, nth-where, nth-stored}
 use Rattle.separation.proofs.Kept.{Kept, route-some, on-same}
 
 -- a train of the list after a step that leaves a train off as it is

@@ -1,4 +1,3 @@
-pub mod Laws
 pub mod Kept
 pub mod Keeping
 pub mod Going

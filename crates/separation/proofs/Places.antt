@@ -2,7 +2,6 @@
 use Prim.Native.Nat.{ℕ, zero, suc, _-_, _≤_, _<_}
 use mathlib.Core.Path.{_≡_}
 use native.Mathlib.Omega.{arith}
-use Rattle.lists.specs.Words.{at}
 use Rattle.lists.proofs.Cases.{cases, lt-or-le, eq-or-ne}
 use Rattle.tables.specs.declared.Tables.{Tables}
 use Rattle.trains.specs.Way.{startAfter}

@@ -11,22 +11,21 @@ use borrow.Author.Tests.{ltb-true, lt-ltb}
 use Rattle.lists.specs.Words.{if_then_else_, nth, each, tabulate, least}
 use Rattle.lists.proofs.Cases.{by-test}
 use Rattle.lists.proofs.Loops.{least-holds, least-upto}
-use Rattle.lists.proofs.Numbered.{nth-index, length-tabulate, nth-tabulate, nth-replicate}
+use Rattle.lists.proofs.Numbered.{nth-index, length-tabulate, nth-tabulate, nth-replicate, length-each, nth-each-in}
 use Rattle.tables.specs.declared.Tables.{Tables}
 use Rattle.tables.specs.Tables.{countOf}
 use Rattle.tables.specs.Facts.{Meets}
-use Rattle.reading.specs.Decoding.{decoded}
+use Rattle.decoding.specs.Decoding.{decoded}
 use Rattle.trains.specs.declared.Train.{Train}
 use Rattle.trains.specs.Train.{mostTrains, off, trainAt, isOn}
 use Rattle.trains.specs.Way.{startAfter}
 use Rattle.area.specs.declared.Answer.{Answer}
 use Rattle.area.specs.declared.Outcome.{Outcome}
 use Rattle.area.specs.Answers.{numberOf}
-use Rattle.area.specs.Load.{fresh, loaded}
+use Rattle.loading.specs.Load.{fresh, loaded}
 use Rattle.separation.specs.Calls.{Call, Enter, Leave, Speed, Request, Grant, Position, called}
 use Rattle.separation.specs.Runs.{World, noted, isDone, worldBy, next, afterFrom, begin, after}
 use Rattle.separation.specs.Ways.{WayTrain, offWay, WayWorld, wayTrainAt, placeOfWay, shownTrain, shown, wayAfter, wayTrainBy, wayWorldBy, nextByWays, byWaysFrom, byWays}
-use Rattle.separation.proofs.Laws.{length-each, nth-each-in}
 use Rattle.separation.proofs.Places.{start-mono, one-place}
 use Rattle.separation.proofs.Demand3.{Good, good-fresh, good-next, good-separated, file-meets, file-fresh}
 

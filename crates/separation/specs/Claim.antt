@@ -6,11 +6,11 @@ use mathlib.Core.Bool.{true}
 use mathlib.Core.List.{List}
 use Rattle.lists.specs.Words.{nth, at}
 use Rattle.tables.specs.declared.Tables.{Tables}
-use Rattle.reading.specs.Decoding.{decoded}
+use Rattle.decoding.specs.Decoding.{decoded}
 use Rattle.trains.specs.Train.{trainAt, isOn}
 use Rattle.area.specs.declared.Answer.the-variants.{Done}
 use Rattle.area.specs.Answers.{numberOf, placeOf}
-use Rattle.area.specs.Load.{loaded}
+use Rattle.loading.specs.Load.{loaded}
 use Rattle.area.specs.Sound.{sound}
 use Rattle.separation.specs.Calls.{Call}
 use Rattle.separation.specs.Runs.{World, after}

@@ -10,7 +10,7 @@ use Rattle.area.specs.declared.Answer.{Answer}
 use Rattle.area.specs.declared.Area.{Area}
 use Rattle.area.specs.declared.Outcome.{Outcome}
 use Rattle.area.specs.Answers.{numberOf}
-use Rattle.area.specs.Load.{loaded}
+use Rattle.loading.specs.Load.{loaded}
 use Rattle.separation.specs.Calls.{Call, Enter, Leave, Speed, Request, Grant, Position, called}
 
 -- what the list tells of each train by its number; nothing of it is read off the record's trains on, routes, places or positions

@@ -13,7 +13,7 @@ use Rattle.trains.specs.Way.{startAfter}
 use Rattle.area.specs.declared.Answer.{Answer}
 use Rattle.area.specs.declared.Area.{Area}
 use Rattle.area.specs.declared.Outcome.{Outcome}
-use Rattle.area.specs.Load.{loaded}
+use Rattle.loading.specs.Load.{loaded}
 use Rattle.separation.specs.Calls.{Call, Enter, Leave, Speed, Request, Grant, Position, called}
 use Rattle.separation.specs.Runs.{isDone}
 

@@ -1,2 +1,1 @@
 pub mod Consistency
-pub mod Routes

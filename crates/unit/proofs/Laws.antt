@@ -16,12 +16,12 @@ use Rattle.braking.specs.Braking.{S}
 use Rattle.file.specs.Bytes.{byteAt, half, word}
 use Rattle.file.specs.Blocks.{fileSize}
 use Rattle.tables.specs.Tables.{blankTables}
-use Rattle.reading.specs.Decoding.{decoded}
+use Rattle.decoding.specs.Decoding.{decoded}
 use Rattle.trains.specs.declared.Train.{Train}
 use Rattle.trains.specs.Train.{off, trainAt}
 use Rattle.area.specs.declared.Area.{Area}
 use Rattle.area.specs.Answers.{numberOf, placeOf}
-use Rattle.area.specs.Load.{loaded}
+use Rattle.loading.specs.Load.{loaded}
 use Rattle.separation.specs.Runs.{isDone}
 use Rattle.separation.specs.Claim.{Separated}
 use Rattle.runs.specs.declared.Ran.{Ran}

@@ -10,7 +10,7 @@ use Rattle.file.specs.Bytes.{byteAt, half, word}
 use Rattle.file.specs.Blocks.{fileSize}
 use Rattle.tables.specs.declared.Tables.{Tables}
 use Rattle.tables.specs.Tables.{blankTables}
-use Rattle.reading.specs.Decoding.{decoded}
+use Rattle.decoding.specs.Decoding.{decoded}
 use Rattle.trains.specs.declared.Train.{Train}
 use Rattle.trains.specs.Train.{mostTrains, trainAt}
 use Rattle.area.specs.declared.Area.{Area}

@@ -4,11 +4,11 @@ ghost use mathlib.Core.Path.{_≡_};
 ghost use lib.ListN.{length};
 ghost use Rattle.lists.specs.Words.{if_then_else_, tabulate};
 ghost use Rattle.file.specs.Bytes.{byteAt};
-ghost use Rattle.reading.specs.Decoding.{decoded};
-ghost use Rattle.reading.specs.View.{viewStart, viewCount};
+ghost use Rattle.decoding.specs.Decoding.{decoded};
+ghost use Rattle.view.specs.View.{viewStart, viewCount};
 ghost use Rattle.trains.specs.Train.{mostTrains};
 ghost use Rattle.area.specs.Answers.{numberOf, placeOf};
-ghost use Rattle.area.specs.Load.{loaded};
+ghost use Rattle.loading.specs.Load.{loaded};
 ghost use Rattle.area.specs.Sound.{sound};
 ghost use Rattle.area.specs.Calls.{reported};
 ghost use Rattle.separation.specs.Runs.{isDone};
@@ -82,7 +82,7 @@ fn tables_of(file: &[u8]) -> Tables
     if file.len() != file::FILE_SIZE {
         return tables::blank_tables();
     }
-    reading::decode(file)
+    decoding::decode(file)
 }
 
 fn allocations_of(state: &[u8]) -> [u8; 62]
@@ -149,7 +149,7 @@ fn place_of(answer: Answer) -> u16
 pub extern "C" fn rbu_load(file: &[u8], place: &mut u16) -> u8
     ensures { λ r. ⌜ (r ≡ numberOf (loaded (now (file .entry)) .answer)) × (now (place .exit) ≡ placeOf (loaded (now (file .entry)) .answer)) ⌝ }
 {
-    let o = area::load(file);
+    let o = loading::load(file);
     let answer = o.answer;
     *place = place_of(answer);
     area::number_of(answer)
@@ -160,7 +160,7 @@ pub extern "C" fn rbu_load(file: &[u8], place: &mut u16) -> u8
 pub extern "C" fn rbu_view(file: &[u8], route: u16, start: &mut u32, count: &mut u32)
     ensures { λ _. ⌜ (now (start .exit) ≡ viewStart (now (file .entry)) route) × (now (count .exit) ≡ viewCount (now (file .entry)) route) ⌝ }
 {
-    let view = reading::view_of(file, route);
+    let view = view::view_of(file, route);
     *start = view.start;
     *count = view.count;
 }

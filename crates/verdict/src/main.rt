@@ -9,9 +9,9 @@ fn say_counts(segments: u8, routes: u8) {
 }
 
 fn judge(file: &[u8]) {
-    let outcome = area::load(file);
+    let outcome = loading::load(file);
     let answer = outcome.answer;
-    console::say_answer(answer);
+    wording::say_answer(area::number_of(answer), area::place_of(answer));
     if area::number_of(answer) == 0 {
         say_counts(outcome.area.tables.segments, outcome.area.tables.routes);
     }

@@ -5,7 +5,7 @@ use lib.ListN.{drop}
 use borrow.Author.Tests.{eq-eqb, ne-eqb}
 use borrow.Author.Needs.{needs}
 use denote.Ref.{now}
-use Rattle.reading.specs.Decoding.{decoded}
+use Rattle.decoding.specs.Decoding.{decoded}
 use Rattle.reading.specs.Verdict.{fileTests, tableTests, verdict, readingOf}
 use Rattle.lists.proofs.Refusals.{refuse, leave}
 use Rattle.reading.proofs.Laws.{LeftReading, refuse-block, leave-none}

@@ -4,7 +4,7 @@ use lib.ListN.{length}
 use borrow.Author.Needs.{needs}
 use denote.Ref.{now}
 use Rattle.lists.proofs.Loops.{failing-le}
-use Rattle.replay.specs.Input.{kindKnown}
+use Rattle.input.specs.Input.{kindKnown}
 use Rattle.replay.proofs.refuse_unknown.Statement.{statement}
 use Rattle.replay.proofs.refuse_unknown.Tie as tie
 

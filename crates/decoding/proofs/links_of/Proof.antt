@@ -1,0 +1,75 @@
+use Prim.Native.Nat.{_+_, _-_, _/_}
+use mathlib.Core.Path.{_≡_}
+use native.Mathlib.Omega.{arith}
+use borrow.Author.Needs.{needs}
+use Rattle.decoding.specs.Decoding.{linkIn}
+use Rattle.lists.proofs.Loops.{Tabled, table-begin, table-more, table-over}
+use Rattle.decoding.proofs.links_of.Statement.{statement}
+use Rattle.decoding.proofs.links_of.Tie as tie
+
+abbrev Inv-loop : tie.InvT-loop
+Inv-loop file place links₀ i₀ links i = Tabled 124 (linkIn place file) i links
+
+abbrev μ-loop : tie.MeasureT-loop
+μ-loop file place links₀ i₀ links i = 124 - i
+
+loop-holds : tie.Need-loop-holds Inv-loop μ-loop
+loop-holds c = table-begin
+
+segment-start-requires : tie.Need-segment-start-requires Inv-loop μ-loop
+segment-start-requires c κs = search needs
+
+cast-at : tie.Need-cast-at Inv-loop μ-loop
+cast-at c = omega arith
+
+add-at : tie.Need-add-at Inv-loop μ-loop
+add-at c = omega arith
+
+add-at-2 : tie.Need-add-at-2 Inv-loop μ-loop
+add-at-2 c = omega arith
+
+segment-block-requires : tie.Need-segment-block-requires Inv-loop μ-loop
+segment-block-requires c κs = search needs
+
+byte-requires : tie.Need-byte-requires Inv-loop μ-loop
+byte-requires c κs = search needs
+
+array-write-links : tie.Need-array-write-links Inv-loop μ-loop
+array-write-links c = omega arith
+
+add-i : tie.Need-add-i Inv-loop μ-loop
+add-i c = omega arith
+
+loop-less : tie.Need-loop-less Inv-loop μ-loop
+loop-less c = omega arith
+
+loop-again : tie.Need-loop-again Inv-loop μ-loop
+unfolding linkIn
+loop-again c =
+    let i = c .before .before .before .before .loop .i in
+    let record-of : (i + 1 + 1) / 2 ≡ i / 2 + 1 = omega arith in
+    let side-of : i + 1 - 1 ≡ i = omega arith in
+    table-more (c .before .before .before .before .loop .inv) (c .before .before .before .loop-test .taken)
+    (simp (record-of, side-of, c .byte .ensures, c .before .segment-block .ensures, c .before .before .segment-start .ensures))
+
+returns : tie.Need-returns Inv-loop μ-loop
+returns c = table-over (c .before .loop .inv) (c .loop-test .left)
+
+pub links-of-spec : {M : Type 1} → statement M
+links-of-spec =
+    tie.close
+    (tie.spec
+    Inv-loop
+    μ-loop
+    loop-holds
+    segment-start-requires
+    cast-at
+    add-at
+    add-at-2
+    segment-block-requires
+    byte-requires
+    array-write-links
+    add-i
+    loop-less
+    loop-again
+    returns)

@@ -1,0 +1,62 @@
+use Prim.Native.Nat.{_+_, _-_}
+use mathlib.Core.Path.{_≡_}
+use native.Mathlib.Omega.{arith}
+use borrow.Author.Needs.{needs}
+use Rattle.decoding.specs.Decoding.{wayIn}
+use Rattle.lists.proofs.Loops.{Tabled, table-begin, table-more, table-over}
+use Rattle.decoding.proofs.ways_of.Statement.{statement}
+use Rattle.decoding.proofs.ways_of.Tie as tie
+
+abbrev Inv-loop : tie.InvT-loop
+Inv-loop file ways₀ i₀ ways i = Tabled 960 (wayIn file) i ways
+
+abbrev μ-loop : tie.MeasureT-loop
+μ-loop file ways₀ i₀ ways i = 960 - i
+
+loop-holds : tie.Need-loop-holds Inv-loop μ-loop
+loop-holds c = table-begin
+
+add-block-of : tie.Need-add-block-of Inv-loop μ-loop
+add-block-of c = omega arith
+
+block-of-requires : tie.Need-block-of-requires Inv-loop μ-loop
+block-of-requires c κs = search needs
+
+byte-requires : tie.Need-byte-requires Inv-loop μ-loop
+byte-requires c κs = search needs
+
+array-write-ways : tie.Need-array-write-ways Inv-loop μ-loop
+array-write-ways c = omega arith
+
+add-i : tie.Need-add-i Inv-loop μ-loop
+add-i c = omega arith
+
+loop-less : tie.Need-loop-less Inv-loop μ-loop
+loop-less c = omega arith
+
+loop-again : tie.Need-loop-again Inv-loop μ-loop
+unfolding wayIn
+loop-again c =
+    let i = c .before .before .before .loop .i in
+    let e : i + 1 - 1 ≡ i = omega arith in
+    table-more (c .before .before .before .loop .inv) (c .before .before .loop-test .taken)
+    (simp (e, c .byte .ensures, c .before .block-of .ensures .0))
+
+returns : tie.Need-returns Inv-loop μ-loop
+returns c = table-over (c .before .loop .inv) (c .loop-test .left)
+
+pub ways-of-spec : {M : Type 1} → statement M
+ways-of-spec =
+    tie.close
+    (tie.spec
+    Inv-loop
+    μ-loop
+    loop-holds
+    add-block-of
+    block-of-requires
+    byte-requires
+    array-write-ways
+    add-i
+    loop-less
+    loop-again
+    returns)

@@ -1,0 +1,31 @@
+use Prim.Native.Nat.{_+_, _-_, _*_}
+use mathlib.Core.Path.{_≡_, sym}
+use native.Mathlib.Omega.{arith}
+use borrow.Author.Needs.{needs}
+use denote.Ref.{now}
+use Rattle.lists.proofs.Numbered.{nth-in}
+use Rattle.tables.specs.Tables.{segmentAt}
+use Rattle.routes.proofs.way_byte.Statement.{statement}
+use Rattle.routes.proofs.way_byte.Tie as tie
+
+mul-result : tie.Need-mul-result
+mul-result c = search needs
+
+sub-result : tie.Need-sub-result
+sub-result c = search needs
+
+add-result : tie.Need-add-result
+add-result c = search needs
+
+element-copy-out-result : tie.Need-element-copy-out-result
+element-copy-out-result c = search needs
+
+returns : tie.Need-returns
+unfolding segmentAt
+returns c =
+    let a = c .before .args in
+    let e : 32 * a .r - 31 + a .p - 1 ≡ 32 * a .r - 32 + a .p = omega arith in
+    sym (rw e at (nth-in 0 (now (a .ways)) (32 * a .r - 31 + a .p) (omega arith)))
+
+pub way-byte-spec : {M : Type 1} → statement M
+way-byte-spec = tie.close (tie.spec mul-result sub-result add-result element-copy-out-result returns)

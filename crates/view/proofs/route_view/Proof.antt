@@ -1,0 +1,52 @@
+use Prim.Native.Nat.{_+_, _-_}
+use mathlib.Core.Path.{_≡_, refl}
+use native.Mathlib.Omega.{arith}
+use borrow.Author.Needs.{needs}
+use denote.Ref.{now}
+use Rattle.view.proofs.View.{view-within}
+use Rattle.view.proofs.route_view.Statement.{statement}
+use Rattle.view.proofs.route_view.Tie as tie
+
+view-of-requires : tie.Need-view-of-requires
+view-of-requires c κs = search needs
+
+cast-start : tie.Need-cast-start
+cast-start c = search needs
+
+cast-count : tie.Need-cast-count
+cast-count c = search needs
+
+add-result : tie.Need-add-result
+add-result c = search needs
+
+sub-result : tie.Need-sub-result
+sub-result c = search needs
+
+part-result-start : tie.Need-part-result-start
+part-result-start c = search needs
+
+part-result-end : tie.Need-part-result-end
+part-result-end c =
+    let a = c .before .before .before .before .args in
+    let e = c .before .before .view-of .ensures in
+    omega (arith, e .0, e .1, view-within (now (a .file)) (a .route))
+
+returns : tie.Need-returns
+returns c =
+    let e = c .before .before .before .view-of .ensures in
+    let p = c .before .before .before .view-of .result in
+    let m : p .start + p .count - p .start ≡ p .count = omega arith in
+    record { bytes = rw (← (e .0), ← (e .1), m); block = refl; offset = rw (← (e .0)) }
+
+pub route-view-spec : {M : Type 1} → statement M
+route-view-spec =
+    tie.close
+    (tie.spec
+    view-of-requires
+    cast-start
+    cast-count
+    add-result
+    sub-result
+    part-result-start
+    part-result-end
+    returns)
