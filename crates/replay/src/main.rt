@@ -3,7 +3,6 @@
 use area::Area;
 use libc::STDERR_FILENO;
 use libc::STDOUT_FILENO;
-use trains::Train;
 
 // Calls, and the bytes that spell them: 64 a call.
 const MOST_CALLS: usize = 1000;
@@ -13,67 +12,17 @@ const MOST_BYTES: usize = 64000;
 // Room for a file, the longest script and one byte more, so that a longer input is seen to be longer.
 const INPUT_ROOM: usize = 66561;
 
-// ---- what is printed of a state
-fn say_train(trains: [Train; 24], t: u8) {
-    let x = trains::train_at(trains, t);
-    if x.route == 0 {
-        return;
-    }
-    let asks = if x.asks { 1 } else { 0 };
-    console::say_number(b"train ", t as u64);
-    console::say_number(b" route ", x.route as u64);
-    console::say_number(b" place ", x.place as u64);
-    console::say_number(b" position ", x.position as u64);
-    console::say_number(b" speed ", x.speed as u64);
-    console::say_number(b" asks ", asks);
-    io::write_all(STDOUT_FILENO, b"\n");
-}
-
-fn say_allocation(allocations: &[u8], s: usize) {
-    let t = lists::entry_u8(allocations, s);
-    if t == 0 {
-        return;
-    }
-    console::say_number(b"allocation ", s as u64);
-    console::say_number(b" ", t as u64);
-    io::write_all(STDOUT_FILENO, b"\n");
-}
-
-fn say_trains(trains: [Train; 24]) {
-    for t in 1..25 {
-        say_train(trains, t);
-    }
-}
-
-fn say_allocations(allocations: &[u8]) {
-    for s in 1..63 {
-        say_allocation(allocations, s);
-    }
-}
-
 fn say_state(area: Area) {
     console::say_number(b"due ", area.due as u64);
     io::write_all(STDOUT_FILENO, b"\n");
     let trains = area.trains;
-    say_trains(trains);
+    display::say_trains(trains);
     let allocations = area.allocations;
-    say_allocations(&allocations);
+    display::say_allocations(&allocations);
     let report = area.report();
     console::say_number(b"report ", report.allocated as u64);
     console::say_number(b" ", report.free as u64);
     io::write_all(STDOUT_FILENO, b"\n");
-}
-
-fn say_answer(answers: &[u8], k: usize) {
-    let number = file::byte(answers, k);
-    console::say_number(b"", number as u64);
-    io::write_all(STDOUT_FILENO, b"\n");
-}
-
-fn say_answers(answers: &[u8], calls: usize) {
-    for k in 0..calls {
-        say_answer(answers, k);
-    }
 }
 
 // ---- refusals of the input
@@ -107,7 +56,7 @@ fn run(file: &[u8], words: &[u16]) {
     if area::number_of(answer) != 0 {
         return;
     }
-    say_answers(&answers, ran.calls);
+    display::say_answers(&answers, ran.calls);
     say_state(ran.area);
 }
 

@@ -1,8 +1,8 @@
 use Prim.Native.Nat.{_-_}
 use native.Mathlib.Omega.{arith}
 use borrow.Author.Needs.{needs}
-use Rattle.replay.proofs.say_trains.Statement.{statement}
-use Rattle.replay.proofs.say_trains.Tie as tie
+use Rattle.display.proofs.say_trains.Statement.{statement}
+use Rattle.display.proofs.say_trains.Tie as tie
 
 -- no contract speaks of what is printed, so nothing has to be kept from turn to turn
 abbrev Inv-loop : tie.InvT-loop

@@ -1,0 +1,52 @@
+// What the bench tool prints: a line for each train on, for each allocated segment and for each answer.
+use libc::STDOUT_FILENO;
+use trains::Train;
+
+fn say_train(trains: [Train; 24], t: u8) {
+    let x = trains::train_at(trains, t);
+    if x.route == 0 {
+        return;
+    }
+    let asks = if x.asks { 1 } else { 0 };
+    console::say_number(b"train ", t as u64);
+    console::say_number(b" route ", x.route as u64);
+    console::say_number(b" place ", x.place as u64);
+    console::say_number(b" position ", x.position as u64);
+    console::say_number(b" speed ", x.speed as u64);
+    console::say_number(b" asks ", asks);
+    io::write_all(STDOUT_FILENO, b"\n");
+}
+
+pub fn say_trains(trains: [Train; 24]) {
+    for t in 1..25 {
+        say_train(trains, t);
+    }
+}
+
+fn say_allocation(allocations: &[u8], s: usize) {
+    let t = lists::entry_u8(allocations, s);
+    if t == 0 {
+        return;
+    }
+    console::say_number(b"allocation ", s as u64);
+    console::say_number(b" ", t as u64);
+    io::write_all(STDOUT_FILENO, b"\n");
+}
+
+pub fn say_allocations(allocations: &[u8]) {
+    for s in 1..63 {
+        say_allocation(allocations, s);
+    }
+}
+
+fn say_answer(answers: &[u8], k: usize) {
+    let number = file::byte(answers, k);
+    console::say_number(b"", number as u64);
+    io::write_all(STDOUT_FILENO, b"\n");
+}
+
+pub fn say_answers(answers: &[u8], calls: usize) {
+    for k in 0..calls {
+        say_answer(answers, k);
+    }
+}
