@@ -5,7 +5,7 @@ use Rattle.lists.specs.Tests.{Test}
 use Rattle.lists.proofs.Refusals.{Left}
 use Rattle.area.specs.declared.Area.{Area}
 use Rattle.area.specs.declared.Outcome.{Outcome}
-use Rattle.area.specs.Answers.{answerOf}
+use Rattle.answers.specs.Answers.{answerOf}
 use Rattle.area.specs.Calls.{outcomeBy}
 
 abbrev pub LeftOutcome : Outcome → Area → Area → List Test → Type 0

@@ -14,7 +14,7 @@ use Rattle.trains.specs.Steps.{sped, requested, granted, calmed, moved, freed, 
 use Rattle.area.specs.declared.Area.{Area}
 use Rattle.area.specs.declared.Outcome.{Outcome}
 use Rattle.area.specs.declared.Report.{Report}
-use Rattle.area.specs.Answers.{answerOf}
+use Rattle.answers.specs.Answers.{answerOf}
 use Rattle.area.specs.Sound.{sound}
 
 -- the first test that holds refuses; where none does, the step is finished

@@ -1,4 +1,3 @@
-pub mod Answers
 pub mod Sound
 pub mod SoundFacts
 pub mod Calls

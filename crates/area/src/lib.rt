@@ -1,8 +1,9 @@
 // An area by value, and its calls: each takes the record and hands it back in an outcome. A refusal hands it back as it came.
 ghost use mathlib.Core.Path.{_≡_};
-ghost use Rattle.area.specs.Answers.{answerOf, numberOf, placeOf};
+ghost use Rattle.answers.specs.Answers.{answerOf};
 ghost use Rattle.area.specs.Sound.{sound};
 ghost use Rattle.area.specs.Calls.{outcome, routeTests, afterEnter, enterCall, leaveCall, speedCall, requestCall, grantCall, positionCall, reported};
+use answers::Answer;
 use tables::Tables;
 use trains::Train;
 
@@ -13,11 +14,6 @@ pub struct Area {
     pub allocations: [u8; 62],
     pub trains: [Train; 24],
     pub due: u8,
-}
-
-pub enum Answer {
-    Done,
-    Refused { number: u8, place: u16 },
 }
 
 pub struct Outcome {
@@ -32,40 +28,11 @@ pub struct Report {
     pub free: u8,
 }
 
-pub fn answer_of(number: u8, place: u16) -> Answer
-    ensures { λ r. ⌜ r ≡ answerOf number place ⌝ }
-{
-    if number == 0 {
-        return Answer::Done;
-    }
-    Answer::Refused { number, place }
-}
-
-// The number that an answer has in document 01's table, 0 for done.
-pub fn number_of(answer: Answer) -> u8
-    ensures { λ r. ⌜ r ≡ numberOf answer ⌝ }
-{
-    match answer {
-        Answer::Done => 0,
-        Answer::Refused { number, place } => number,
-    }
-}
-
-// The place that an answer names, 0 where it names none.
-pub fn place_of(answer: Answer) -> u16
-    ensures { λ r. ⌜ r ≡ placeOf answer ⌝ }
-{
-    match answer {
-        Answer::Done => 0,
-        Answer::Refused { number, place } => place,
-    }
-}
-
 fn refused(area: Area, number: u8) -> Outcome
     ensures { λ r. ⌜ r ≡ record { answer = answerOf number 0; area = area } ⌝ }
 {
     Outcome {
-        answer: answer_of(number, 0),
+        answer: answers::answer_of(number, 0),
         area,
     }
 }
@@ -74,7 +41,7 @@ fn done(area: Area) -> Outcome
     ensures { λ r. ⌜ r ≡ record { answer = answerOf 0 0; area = area } ⌝ }
 {
     Outcome {
-        answer: answer_of(0, 0),
+        answer: answers::answer_of(0, 0),
         area,
     }
 }
@@ -278,7 +245,7 @@ impl Area {
     {
         if !self.sound() {
             return Report {
-                answer: answer_of(11, 0),
+                answer: answers::answer_of(11, 0),
                 allocated: 0,
                 free: 0,
             };
@@ -287,7 +254,7 @@ impl Area {
         let segments = self.tables.segments;
         let summary = summary::summary_of(allocations, segments);
         Report {
-            answer: answer_of(0, 0),
+            answer: answers::answer_of(0, 0),
             allocated: summary.allocated,
             free: summary.free,
         }

@@ -1,18 +1,18 @@
 // Document 01's run of Area A: reads the file from standard input, enters train 1 on route 1 and train 2 on route 2, runs
 // six cycles and lists where both trains are after each. A refusal is one line, and the listing goes no further.
-use area::Answer;
+use answers::Answer;
 use area::Area;
 use area::Outcome;
 use libc::STDOUT_FILENO;
 
 // Whether the answer is a refusal; if so, says what of.
 fn refused(call: &[u8], answer: Answer) -> bool {
-    if area::number_of(answer) == 0 {
+    if answers::number_of(answer) == 0 {
         return false;
     }
     io::write_all(STDOUT_FILENO, call);
     io::write_all(STDOUT_FILENO, b": ");
-    wording::say_answer(area::number_of(answer), area::place_of(answer));
+    wording::say_answer(answers::number_of(answer), answers::place_of(answer));
     true
 }
 
@@ -60,7 +60,7 @@ fn run_cycles(entered: Area) {
     for cycle in 1..7 {
         let outcome = run_cycle(area);
         let answer = outcome.answer;
-        if area::number_of(answer) != 0 {
+        if answers::number_of(answer) != 0 {
             return;
         }
         area = outcome.area;

@@ -14,9 +14,9 @@ use Rattle.reading.specs.Verdict.{verdict, accepted, readingOf}
 use Rattle.reading.specs.Acceptance.{MeetsRules}
 use Rattle.reading.proofs.Accepted.{loadTests, accepted-iff, number-zero, refusal-placed}
 use Rattle.trains.specs.Train.{off}
-use Rattle.area.specs.Answers.{answerOf, numberOf, placeOf}
+use Rattle.answers.specs.Answers.{answerOf, numberOf, placeOf}
 use Rattle.loading.specs.Load.{fresh, blank, loaded, AllZero}
-use Rattle.area.proofs.Answers.{number-of-answer, place-of-answer}
+use Rattle.answers.proofs.Answers.{number-of-answer, place-of-answer}
 
 module _ (file : List ℕ) where
   blank-fresh : fresh blankTables ≡ blank

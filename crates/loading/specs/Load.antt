@@ -11,7 +11,7 @@ use Rattle.reading.specs.Verdict.{verdict}
 use Rattle.trains.specs.Train.{off, trainAt}
 use Rattle.area.specs.declared.Area.{Area}
 use Rattle.area.specs.declared.Outcome.{Outcome}
-use Rattle.area.specs.Answers.{answerOf}
+use Rattle.answers.specs.Answers.{answerOf}
 
 -- a loaded area: no allocations, no trains, speed due
 unfoldable pub fresh : Tables → Area

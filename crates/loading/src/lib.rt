@@ -22,7 +22,7 @@ pub fn load(file: &[u8]) -> Outcome
     ensures { λ r. ⌜ r ≡ loaded (now (file .entry)) ⌝ }
 {
     let reading = reading::read(file);
-    let answer = area::answer_of(reading.number, reading.place);
+    let answer = answers::answer_of(reading.number, reading.place);
     let tables = reading.tables;
     Outcome {
         answer,

@@ -50,10 +50,10 @@ fn run(file: &[u8], words: &[u16]) {
     let mut answers = [0u8; MOST_CALLS];
     let ran = runs::run_file(file, words, &mut answers);
     let answer = ran.answer;
-    console::say_number(b"load ", area::number_of(answer) as u64);
-    console::say_number(b" ", area::place_of(answer) as u64);
+    console::say_number(b"load ", answers::number_of(answer) as u64);
+    console::say_number(b" ", answers::place_of(answer) as u64);
     io::write_all(STDOUT_FILENO, b"\n");
-    if area::number_of(answer) != 0 {
+    if answers::number_of(answer) != 0 {
         return;
     }
     display::say_answers(&answers, ran.calls);

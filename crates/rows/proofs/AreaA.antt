@@ -16,7 +16,7 @@ use Rattle.tables.specs.declared.Tables.{Tables}
 use Rattle.tables.specs.Bounds.{mostSegments, mostRoutes}
 use Rattle.tables.specs.Tables.{linksTo, countOf, segmentAt}
 use Rattle.tables.specs.Rules.{headerIn, headerOk, marginOk, linksOk, usedOk, unusedOk, rowOk, segmentOk, matched, jointIn, jointOk, orderIn, orderOk, dropIn, dropOk, stepBy, stepIn, countIn, routeIn, routeOk}
-use Rattle.area.specs.Answers.{answerOf}
+use Rattle.answers.specs.Answers.{answerOf}
 use Rattle.loading.specs.Load.{loaded}
 use Rattle.rows.specs.AreaA.{two, four, header, segments, noSegments, routes, noRoutes, file}
 

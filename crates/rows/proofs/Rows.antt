@@ -11,8 +11,8 @@ use Rattle.reading.proofs.Accepted.{tables-meet}
 use Rattle.trains.specs.Train.{trainAt, ownIn, nextIn, nearIn, holdsIn}
 use Rattle.trains.specs.Steps.{wantsIn, movesIn, movedIn}
 use Rattle.trains.specs.Sound.{placeIn, runIn, brakingIn, askingIn, trainSound, allocationSound}
-use Rattle.area.specs.declared.Answer.the-variants.{Done, Refused}
-use Rattle.area.specs.Answers.{answerOf, numberOf}
+use Rattle.answers.specs.declared.Answer.the-variants.{Done, Refused}
+use Rattle.answers.specs.Answers.{answerOf, numberOf}
 use Rattle.loading.specs.Load.{loaded}
 use Rattle.area.specs.Sound.{sound}
 use Rattle.area.specs.Calls.{afterPosition, positionCall}

@@ -6,7 +6,7 @@ use lib.Dec.{eqb}
 use Rattle.braking.specs.Braking.{S, B}
 use Rattle.trains.specs.Train.{trainAt}
 use Rattle.area.specs.declared.Area.{Area}
-use Rattle.area.specs.Answers.{numberOf, placeOf}
+use Rattle.answers.specs.Answers.{numberOf, placeOf}
 use Rattle.loading.specs.Load.{loaded}
 use Rattle.area.specs.Calls.{positionCall}
 use Rattle.rows.specs.AreaA.{header, segments, file, headerA, segmentsA, moving}

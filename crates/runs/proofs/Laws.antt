@@ -13,7 +13,7 @@ use Rattle.lists.proofs.Cases.{facts}
 use Rattle.decoding.specs.Decoding.{decoded}
 use Rattle.area.specs.declared.Area.{Area}
 use Rattle.area.specs.declared.Outcome.{Outcome}
-use Rattle.area.specs.Answers.{numberOf}
+use Rattle.answers.specs.Answers.{numberOf}
 use Rattle.loading.specs.Load.{loaded}
 use Rattle.separation.specs.Calls.{Call, called}
 use Rattle.separation.specs.Runs.{World, next, afterFrom, begin, after}

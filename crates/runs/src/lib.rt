@@ -3,12 +3,12 @@
 ghost use mathlib.Core.Path.{_≡_};
 ghost use lib.ListN.{length, getD, take, drop};
 ghost use Rattle.decoding.specs.Decoding.{decoded};
-ghost use Rattle.area.specs.Answers.{numberOf};
+ghost use Rattle.answers.specs.Answers.{numberOf};
 ghost use Rattle.separation.specs.Calls.{called};
 ghost use Rattle.separation.specs.Claim.{Separated};
 ghost use Rattle.runs.specs.Script.{isCall, callOf, wishesOf};
 ghost use Rattle.runs.specs.Ran.{ranOf, written, fileWorld, fileRanOf, fileWritten};
-use area::Answer;
+use answers::Answer;
 use area::Area;
 use area::Outcome;
 
@@ -97,7 +97,7 @@ pub fn run(area: Area, script: &[u16], answers: &mut [u8]) -> Ran
         }
         let o = call(a, words);
         let answer = o.answer;
-        answers[k] = area::number_of(answer);
+        answers[k] = answers::number_of(answer);
         a = o.area;
         k += 1;
     }
@@ -114,7 +114,7 @@ pub fn run_file(file: &[u8], script: &[u16], answers: &mut [u8]) -> FileRan
     let o = loading::load(file);
     let answer = o.answer;
     let loaded = o.area;
-    let number = area::number_of(answer);
+    let number = answers::number_of(answer);
     if number != 0 {
         return FileRan {
             answer,

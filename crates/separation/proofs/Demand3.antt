@@ -14,11 +14,11 @@ use Rattle.decoding.specs.Decoding.{decoded}
 use Rattle.reading.proofs.Accepted.{accepted-iff}
 use Rattle.reading.proofs.Accepted.{tables-meet}
 use Rattle.trains.specs.Train.{off}
-use Rattle.area.specs.declared.Answer.{Answer}
-use Rattle.area.specs.declared.Answer.the-variants.{Done}
+use Rattle.answers.specs.declared.Answer.{Answer}
+use Rattle.answers.specs.declared.Answer.the-variants.{Done}
 use Rattle.area.specs.declared.Area.{Area}
 use Rattle.area.specs.declared.Outcome.{Outcome}
-use Rattle.area.specs.Answers.{numberOf, placeOf}
+use Rattle.answers.specs.Answers.{numberOf, placeOf}
 use Rattle.loading.specs.Load.{fresh, loaded}
 use Rattle.loading.proofs.Loading.{done-iff, done-fresh}
 use Rattle.separation.specs.Calls.{Call, called}

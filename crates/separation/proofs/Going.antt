@@ -15,10 +15,10 @@ use Rattle.tables.proofs.Consistency.{consistent}
 use Rattle.trains.specs.Steps.{firstSegment}
 use Rattle.area.specs.declared.Area.{Area}
 use Rattle.area.specs.declared.Outcome.{Outcome}
-use Rattle.area.specs.Answers.{answerOf, numberOf, placeOf}
+use Rattle.answers.specs.Answers.{answerOf, numberOf, placeOf}
 use Rattle.area.specs.Sound.{sound}
 use Rattle.area.specs.Calls.{outcome, enterTests, leaveTests, speedTests, stepTests, speedDue, requestDue, grantDue, positionDue, afterEnter, afterLeave, afterSpeed, afterRequest, afterGrant, afterPosition, enterCall, leaveCall, speedCall, requestCall, grantCall, positionCall}
-use Rattle.area.proofs.Answers.{number-of-answer, place-of-answer}
+use Rattle.answers.proofs.Answers.{number-of-answer, place-of-answer}
 use Rattle.separation.specs.Calls.{Call, Enter, Leave, Speed, Request, Grant, Position, called}
 use Rattle.separation.specs.Runs.{History, noted, isDone}
 use Rattle.separation.proofs.Kept.{Kept, kept-sound}

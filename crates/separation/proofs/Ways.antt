@@ -19,9 +19,9 @@ use Rattle.decoding.specs.Decoding.{decoded}
 use Rattle.trains.specs.declared.Train.{Train}
 use Rattle.trains.specs.Train.{mostTrains, off, trainAt, isOn}
 use Rattle.trains.specs.Way.{startAfter}
-use Rattle.area.specs.declared.Answer.{Answer}
+use Rattle.answers.specs.declared.Answer.{Answer}
 use Rattle.area.specs.declared.Outcome.{Outcome}
-use Rattle.area.specs.Answers.{numberOf}
+use Rattle.answers.specs.Answers.{numberOf}
 use Rattle.loading.specs.Load.{fresh, loaded}
 use Rattle.separation.specs.Calls.{Call, Enter, Leave, Speed, Request, Grant, Position, called}
 use Rattle.separation.specs.Runs.{World, noted, isDone, worldBy, next, afterFrom, begin, after}

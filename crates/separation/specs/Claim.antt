@@ -8,8 +8,8 @@ use Rattle.lists.specs.Words.{nth, at}
 use Rattle.tables.specs.declared.Tables.{Tables}
 use Rattle.decoding.specs.Decoding.{decoded}
 use Rattle.trains.specs.Train.{trainAt, isOn}
-use Rattle.area.specs.declared.Answer.the-variants.{Done}
-use Rattle.area.specs.Answers.{numberOf, placeOf}
+use Rattle.answers.specs.declared.Answer.the-variants.{Done}
+use Rattle.answers.specs.Answers.{numberOf, placeOf}
 use Rattle.loading.specs.Load.{loaded}
 use Rattle.area.specs.Sound.{sound}
 use Rattle.separation.specs.Calls.{Call}

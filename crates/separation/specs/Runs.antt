@@ -6,10 +6,10 @@ use lib.Dec.{eqb}
 use Rattle.lists.specs.Words.{if_then_else_, at}
 use Rattle.trains.specs.declared.Train.{Train}
 use Rattle.trains.specs.Train.{trainAt}
-use Rattle.area.specs.declared.Answer.{Answer}
+use Rattle.answers.specs.declared.Answer.{Answer}
 use Rattle.area.specs.declared.Area.{Area}
 use Rattle.area.specs.declared.Outcome.{Outcome}
-use Rattle.area.specs.Answers.{numberOf}
+use Rattle.answers.specs.Answers.{numberOf}
 use Rattle.loading.specs.Load.{loaded}
 use Rattle.separation.specs.Calls.{Call, Enter, Leave, Speed, Request, Grant, Position, called}
 

@@ -10,7 +10,7 @@ use Rattle.tables.specs.Tables.{countOf}
 use Rattle.trains.specs.declared.Train.{Train}
 use Rattle.trains.specs.Train.{mostTrains, off, trainAt}
 use Rattle.trains.specs.Way.{startAfter}
-use Rattle.area.specs.declared.Answer.{Answer}
+use Rattle.answers.specs.declared.Answer.{Answer}
 use Rattle.area.specs.declared.Area.{Area}
 use Rattle.area.specs.declared.Outcome.{Outcome}
 use Rattle.loading.specs.Load.{loaded}

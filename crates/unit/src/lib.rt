@@ -2,146 +2,18 @@
 // a result beside the returned one goes through a reference. The layouts are in docs/FORMATS.md, the declarations in include/.
 ghost use mathlib.Core.Path.{_≡_};
 ghost use lib.ListN.{length};
-ghost use Rattle.lists.specs.Words.{if_then_else_, tabulate};
-ghost use Rattle.file.specs.Bytes.{byteAt};
+ghost use Rattle.lists.specs.Words.{if_then_else_};
 ghost use Rattle.decoding.specs.Decoding.{decoded};
 ghost use Rattle.view.specs.View.{viewStart, viewCount};
-ghost use Rattle.trains.specs.Train.{mostTrains};
-ghost use Rattle.area.specs.Answers.{numberOf, placeOf};
+ghost use Rattle.answers.specs.Answers.{numberOf, placeOf};
 ghost use Rattle.loading.specs.Load.{loaded};
 ghost use Rattle.area.specs.Sound.{sound};
 ghost use Rattle.area.specs.Calls.{reported};
 ghost use Rattle.separation.specs.Runs.{isDone};
 ghost use Rattle.separation.specs.Claim.{Separated};
 ghost use Rattle.runs.specs.Ran.{ranOf, written, fileWorld, fileRanOf, fileWritten};
-ghost use Rattle.unit.specs.State.{trainByte, stateByteIn, stateInto, tablesOf, trainOf, recordOf, distanceAt};
-use area::Answer;
-use area::Area;
-use tables::Tables;
-use trains::Train;
-
-const STATE_SIZE: usize = 832;
-
-// ---- the state as bytes
-// One byte of a train's 32.
-fn train_byte(x: Train, j: u8) -> u8
-    ensures { λ r. ⌜ r ≡ trainByte x j ⌝ }
-{
-    match j {
-        0 => x.route,
-        1 => x.place,
-        2 => x.asks as u8,
-        4 => (x.position % 256) as u8,
-        5 => (x.position / 256 % 256) as u8,
-        6 => (x.position / 65536 % 256) as u8,
-        7 => (x.position / 16777216) as u8,
-        8 => (x.speed % 256) as u8,
-        9 => (x.speed / 256) as u8,
-        _ => 0,
-    }
-}
-
-fn state_byte(due: u8, allocations: &[u8; 62], trains: [Train; 24], i: u16) -> u8
-    ensures { λ r. ⌜ r ≡ stateByteIn due (now (allocations .entry)) trains i ⌝ }
-{
-    if i == 0 {
-        return due;
-    }
-    if i < 64 {
-        return lists::entry_u8(allocations, i as usize);
-    }
-    if 832 <= i {
-        return 0;
-    }
-    let k = i - 64;
-    let x = trains::train_at(trains, (k / 32 + 1) as u8);
-    train_byte(x, (k % 32) as u8)
-}
-
-// Writes the state into a buffer, as far as that has room.
-fn write_state(area: Area, buffer: &mut [u8])
-    ensures { λ _. ⌜ now (buffer .exit) ≡ stateInto area (now (buffer .entry)) ⌝ }
-{
-    let due = area.due;
-    let allocations = area.allocations;
-    let trains = area.trains;
-    let mut i: usize = 0;
-    while i < buffer.len() {
-        if STATE_SIZE <= i {
-            return;
-        }
-        buffer[i] = state_byte(due, &allocations, trains, i as u16);
-        i += 1;
-    }
-}
-
-// ---- any record at all, from bytes
-fn tables_of(file: &[u8]) -> Tables
-    ensures { λ r. ⌜ r ≡ tablesOf (now (file .entry)) ⌝ }
-{
-    if file.len() != file::FILE_SIZE {
-        return tables::blank_tables();
-    }
-    decoding::decode(file)
-}
-
-fn allocations_of(state: &[u8]) -> [u8; 62]
-    ensures { λ r. ⌜ r ≡ tabulate 62 (byteAt (now (state .entry))) ⌝ }
-{
-    let mut new = [0u8; 62];
-    for i in 0..62 {
-        new[i] = file::byte(state, i + 1);
-    }
-    new
-}
-
-fn train_of(state: &[u8], t: u8) -> Train
-    ensures { λ r. ⌜ r ≡ trainOf (now (state .entry)) t ⌝ }
-{
-    let at = 32 * (t as u16) + 32;
-    let i = at as usize;
-    Train {
-        route: file::byte(state, i),
-        place: file::byte(state, i + 1),
-        position: file::word_at(state, at + 4),
-        speed: file::half_at(state, at + 8),
-        asks: file::byte(state, i + 2) != 0,
-    }
-}
-
-fn trains_of(state: &[u8]) -> [Train; 24]
-    ensures { λ r. ⌜ r ≡ tabulate mostTrains (trainOf (now (state .entry))) ⌝ }
-{
-    let off = trains::train_off();
-    let mut new = [off; 24];
-    for i in 0..24 {
-        new[i] = train_of(state, (i + 1) as u8);
-    }
-    new
-}
-
-fn record_of(file: &[u8], state: &[u8]) -> Area
-    ensures { λ r. ⌜ r ≡ recordOf (now (file .entry)) (now (state .entry)) ⌝ }
-{
-    let tables = tables_of(file);
-    let allocations = allocations_of(state);
-    let trains = trains_of(state);
-    Area {
-        tables,
-        allocations,
-        trains,
-        due: file::byte(state, 0),
-    }
-}
-
-fn place_of(answer: Answer) -> u16
-    ensures { λ r. ⌜ r ≡ placeOf answer ⌝ }
-{
-    match answer {
-        Answer::Done => 0,
-        Answer::Refused { number, place } => place,
-    }
-}
+ghost use Rattle.state.specs.State.{stateInto, recordOf};
+ghost use Rattle.unit.specs.Distance.{distanceAt};
 
 // ---- files
 // The number of load's answer to a file; its place goes to `place`.
@@ -151,8 +23,8 @@ pub extern "C" fn rbu_load(file: &[u8], place: &mut u16) -> u8
 {
     let o = loading::load(file);
     let answer = o.answer;
-    *place = place_of(answer);
-    area::number_of(answer)
+    *place = answers::place_of(answer);
+    answers::number_of(answer)
 }
 
 // Where the view of a route starts in the file, and how many bytes it has; both 0 where it is empty.
@@ -186,12 +58,12 @@ pub extern "C" fn rbu_run_file(
 {
     let ran = runs::run_file(file, script, answers);
     let answer = ran.answer;
-    let n = area::number_of(answer);
+    let n = answers::number_of(answer);
     *number = n;
-    *place = place_of(answer);
+    *place = answers::place_of(answer);
     if n == 0 {
         let area = ran.area;
-        write_state(area, state);
+        state::write_state(area, state);
     }
     ran.calls
 }
@@ -215,7 +87,7 @@ pub extern "C" fn rbu_report_file(
     *allocated = report.allocated;
     *free = report.free;
     let answer = report.answer;
-    area::number_of(answer)
+    answers::number_of(answer)
 }
 
 // ---- any record at all: tables that a file's bytes spell, with no rule tested, and a state
@@ -231,10 +103,10 @@ pub extern "C" fn rbu_run_record(
     ensures { λ _. ⌜ now (answers .exit) ≡ written (recordOf (now (file .entry)) (now (state .entry))) (now (script .entry)) (now (answers .entry)) ⌝ }
     ensures { λ _. ⌜ now (state .exit) ≡ stateInto (ranOf (recordOf (now (file .entry)) (now (state .entry))) (now (script .entry)) (length (now (answers .entry))) .area) (now (state .entry)) ⌝ }
 {
-    let before = record_of(file, state);
+    let before = state::record_of(file, state);
     let ran = runs::run(before, script, answers);
     let area = ran.area;
-    write_state(area, state);
+    state::write_state(area, state);
     ran.calls
 }
 
@@ -242,7 +114,7 @@ pub extern "C" fn rbu_run_record(
 pub extern "C" fn rbu_sound(file: &[u8], state: &[u8]) -> bool
     ensures { λ r. ⌜ r ≡ sound (recordOf (now (file .entry)) (now (state .entry))) ⌝ }
 {
-    record_of(file, state).sound()
+    state::record_of(file, state).sound()
 }
 
 #[no_mangle]
@@ -255,11 +127,11 @@ pub extern "C" fn rbu_report_record(
     ensures { λ r. ⌜ r ≡ numberOf (reported (recordOf (now (file .entry)) (now (state .entry))) .answer) ⌝ }
     ensures { λ _. ⌜ (now (allocated .exit) ≡ reported (recordOf (now (file .entry)) (now (state .entry))) .allocated) × (now (free .exit) ≡ reported (recordOf (now (file .entry)) (now (state .entry))) .free) ⌝ }
 {
-    let report = record_of(file, state).report();
+    let report = state::record_of(file, state).report();
     *allocated = report.allocated;
     *free = report.free;
     let answer = report.answer;
-    area::number_of(answer)
+    answers::number_of(answer)
 }
 
 // ---- braking

@@ -11,8 +11,8 @@ fn say_counts(segments: u8, routes: u8) {
 fn judge(file: &[u8]) {
     let outcome = loading::load(file);
     let answer = outcome.answer;
-    wording::say_answer(area::number_of(answer), area::place_of(answer));
-    if area::number_of(answer) == 0 {
+    wording::say_answer(answers::number_of(answer), answers::place_of(answer));
+    if answers::number_of(answer) == 0 {
         say_counts(outcome.area.tables.segments, outcome.area.tables.routes);
     }
 }

@@ -1,7 +1,7 @@
 use mathlib.Core.Path.{ap, _∙_}
 use borrow.Author.Needs.{needs}
 use Rattle.area.specs.declared.Outcome.{Outcome}
-use Rattle.area.specs.Answers.{numberOf, placeOf}
+use Rattle.answers.specs.Answers.{numberOf, placeOf}
 use Rattle.unit.proofs.rbu_load.Statement.{statement}
 use Rattle.unit.proofs.rbu_load.Tie as tie
 

@@ -1,7 +1,7 @@
 use mathlib.Core.Path.{ap, _∙_}
 use borrow.Author.Needs.{needs}
 use Rattle.area.specs.declared.Report.{Report}
-use Rattle.area.specs.Answers.{numberOf}
+use Rattle.answers.specs.Answers.{numberOf}
 use Rattle.area.specs.Calls.{reported}
 use Rattle.unit.proofs.rbu_report_record.Statement.{statement}
 use Rattle.unit.proofs.rbu_report_record.Tie as tie

@@ -1,0 +1,27 @@
+use borrow.Author.Needs.{needs}
+use Rattle.state.specs.State.{recordOf}
+use Rattle.state.proofs.record_of.Statement.{statement}
+use Rattle.state.proofs.record_of.Tie as tie
+
+tables-of-requires : tie.Need-tables-of-requires
+tables-of-requires c κs = search needs
+
+allocations-of-requires : tie.Need-allocations-of-requires
+allocations-of-requires c κs = search needs
+
+trains-of-requires : tie.Need-trains-of-requires
+trains-of-requires c κs = search needs
+
+byte-requires : tie.Need-byte-requires
+byte-requires c κs = search needs
+
+returns : tie.Need-returns
+unfolding recordOf
+returns c =
+    let a = c .before .before in
+    simp (a .before .tables-of .ensures, a .allocations-of .ensures, c .before .trains-of .ensures, c .byte .ensures)
+
+pub record-of-spec : {M : Type 1} → statement M
+record-of-spec =
+    tie.close
+    (tie.spec tables-of-requires allocations-of-requires trains-of-requires byte-requires returns)
