@@ -14,6 +14,27 @@ ghost use Rattle.separation.specs.Claim.{Separated};
 ghost use Rattle.runs.specs.Ran.{ranOf, written, fileWorld, fileRanOf, fileWritten};
 ghost use Rattle.state.specs.State.{stateInto, recordOf};
 ghost use Rattle.unit.specs.Distance.{distanceAt};
+use answers::Answer;
+use area::Area;
+
+// The number of an answer; its place goes to `place`.
+fn tell_answer(answer: Answer, place: &mut u16) -> u8
+    ensures { λ r. ⌜ (r ≡ numberOf answer) × (now (place .exit) ≡ placeOf answer) ⌝ }
+{
+    *place = answers::place_of(answer);
+    answers::number_of(answer)
+}
+
+// The number of the answer to a report; its two numbers go to `allocated` and `free`.
+fn tell_report(area: Area, allocated: &mut u8, free: &mut u8) -> u8
+    ensures { λ r. ⌜ (r ≡ numberOf (reported area .answer)) × ((now (allocated .exit) ≡ reported area .allocated) × (now (free .exit) ≡ reported area .free)) ⌝ }
+{
+    let report = area.report();
+    *allocated = report.allocated;
+    *free = report.free;
+    let answer = report.answer;
+    answers::number_of(answer)
+}
 
 // ---- files
 // The number of load's answer to a file; its place goes to `place`.
@@ -23,8 +44,7 @@ pub extern "C" fn rbu_load(file: &[u8], place: &mut u16) -> u8
 {
     let o = loading::load(file);
     let answer = o.answer;
-    *place = answers::place_of(answer);
-    answers::number_of(answer)
+    tell_answer(answer, place)
 }
 
 // Where the view of a route starts in the file, and how many bytes it has; both 0 where it is empty.
@@ -58,9 +78,8 @@ pub extern "C" fn rbu_run_file(
 {
     let ran = runs::run_file(file, script, answers);
     let answer = ran.answer;
-    let n = answers::number_of(answer);
+    let n = tell_answer(answer, place);
     *number = n;
-    *place = answers::place_of(answer);
     if n == 0 {
         let area = ran.area;
         state::write_state(area, state);
@@ -82,12 +101,7 @@ pub extern "C" fn rbu_report_file(
     ensures { λ _. ⌜ (now (allocated .exit) ≡ reported (fileRanOf (now (file .entry)) (now (script .entry)) (length (now (answers .entry))) .area) .allocated) × (now (free .exit) ≡ reported (fileRanOf (now (file .entry)) (now (script .entry)) (length (now (answers .entry))) .area) .free) ⌝ }
 {
     let ran = runs::run_file(file, script, answers);
-    let area = ran.area;
-    let report = area.report();
-    *allocated = report.allocated;
-    *free = report.free;
-    let answer = report.answer;
-    answers::number_of(answer)
+    tell_report(ran.area, allocated, free)
 }
 
 // ---- any record at all: tables that a file's bytes spell, with no rule tested, and a state
@@ -105,8 +119,8 @@ pub extern "C" fn rbu_run_record(
 {
     let before = state::record_of(file, state);
     let ran = runs::run(before, script, answers);
-    let area = ran.area;
-    state::write_state(area, state);
+    let after = ran.area;
+    state::write_state(after, state);
     ran.calls
 }
 
@@ -127,11 +141,8 @@ pub extern "C" fn rbu_report_record(
     ensures { λ r. ⌜ r ≡ numberOf (reported (recordOf (now (file .entry)) (now (state .entry))) .answer) ⌝ }
     ensures { λ _. ⌜ (now (allocated .exit) ≡ reported (recordOf (now (file .entry)) (now (state .entry))) .allocated) × (now (free .exit) ≡ reported (recordOf (now (file .entry)) (now (state .entry))) .free) ⌝ }
 {
-    let report = state::record_of(file, state).report();
-    *allocated = report.allocated;
-    *free = report.free;
-    let answer = report.answer;
-    answers::number_of(answer)
+    let area = state::record_of(file, state);
+    tell_report(area, allocated, free)
 }
 
 // ---- braking

@@ -1,7 +1,7 @@
 use mathlib.Core.Path.{ap, _∙_}
 use borrow.Author.Needs.{needs}
-use Rattle.area.specs.declared.Report.{Report}
 use Rattle.answers.specs.Answers.{numberOf}
+use Rattle.area.specs.declared.Area.{Area}
 use Rattle.area.specs.Calls.{reported}
 use Rattle.runs.specs.declared.FileRan.{FileRan}
 use Rattle.unit.proofs.rbu_report_file.Statement.{statement}
@@ -10,11 +10,8 @@ use Rattle.unit.proofs.rbu_report_file.Tie as tie
 run-file-requires : tie.Need-run-file-requires
 run-file-requires c κs = search needs
 
-report-requires : tie.Need-report-requires
-report-requires c κs = search needs
-
-number-of-requires : tie.Need-number-of-requires
-number-of-requires c κs = search needs
+tell-report-requires : tie.Need-tell-report-requires
+tell-report-requires c κs = search needs
 
 same-length : tie.Need-same-length
 same-length c = search needs
@@ -22,9 +19,9 @@ same-length c = search needs
 returns : tie.Need-returns
 returns c =
     let r = c .before .before .before .before .before .run-file .ensures in
-    let e = c .before .report .ensures ∙ ap (λ (x : FileRan). reported (x .area)) (r .0) in
-    (c .number-of .ensures ∙ ap (λ (x : Report). numberOf (x .answer)) e, (r .1 .0, (ap (λ (x : Report). x .allocated) e, ap (λ (x : Report). x .free) e)))
+    let t = c .tell-report .ensures in
+    let e = ap (λ (x : FileRan). x .area) (r .0) in
+    (t .0 ∙ ap (λ (x : Area). numberOf (reported x .answer)) e, (r .1 .0, (t .1 .0 ∙ ap (λ (x : Area). reported x .allocated) e, t .1 .1 ∙ ap (λ (x : Area). reported x .free) e)))
 
 pub rbu-report-file-spec : {M : Type 1} → statement M
-rbu-report-file-spec =
-    tie.close (tie.spec run-file-requires report-requires number-of-requires same-length returns)
+rbu-report-file-spec = tie.close (tie.spec run-file-requires tell-report-requires same-length returns)

@@ -7,11 +7,8 @@ use Rattle.unit.proofs.rbu_run_file.Tie as tie
 run-file-requires : tie.Need-run-file-requires
 run-file-requires c κs = search needs
 
-number-of-requires : tie.Need-number-of-requires
-number-of-requires c κs = search needs
-
-place-of-requires : tie.Need-place-of-requires
-place-of-requires c κs = search needs
+tell-answer-requires : tie.Need-tell-answer-requires
+tell-answer-requires c κs = search needs
 
 write-state-requires : tie.Need-write-state-requires
 write-state-requires c κs = search needs
@@ -29,7 +26,7 @@ returns c =
     let p = i .before in
     let r = p .before .before .before .before in
     let old = now (r .before .before .before .before .before .before .args .answers) in
-    told-done _ _ old _ _ (r .run-file .ensures) _ _ (p .before .number-of .ensures) (p .place-of .ensures) _ (i .if1 .taken) _ (w .write-state .ensures)
+    told-done _ _ old _ _ (r .run-file .ensures) _ _ (p .tell-answer .ensures .0) (p .tell-answer .ensures .1) _ (i .if1 .taken) _ (w .write-state .ensures)
 
 same-length-3 : tie.Need-same-length-3
 same-length-3 c = search needs
@@ -39,18 +36,9 @@ returns-2 c =
     let p = c .before in
     let r = p .before .before .before .before in
     let old = now (r .before .before .before .before .before .before .args .answers) in
-    told-refused _ _ old _ _ (r .run-file .ensures) _ _ (p .before .number-of .ensures) (p .place-of .ensures) _ (c .if1 .left)
+    told-refused _ _ old _ _ (r .run-file .ensures) _ _ (p .tell-answer .ensures .0) (p .tell-answer .ensures .1) _ (c .if1 .left)
 
 pub rbu-run-file-spec : {M : Type 1} → statement M
 rbu-run-file-spec =
     tie.close
-    (tie.spec
-    run-file-requires
-    number-of-requires
-    place-of-requires
-    write-state-requires
-    same-length
-    same-length-2
-    returns
-    same-length-3
-    returns-2)
+    (tie.spec run-file-requires tell-answer-requires write-state-requires same-length same-length-2 returns same-length-3 returns-2)
