@@ -31,7 +31,8 @@ void rbu_view(const uint8_t *file, size_t file_length, uint16_t route, uint32_t 
 
 // ---- a list of calls from a file
 
-// Runs a script from a file. Returns how many calls were run: up to the end of the script or as many as `answers` has room for.
+// Runs a script from a file. Returns how many calls were run: up to the end of the script, or the
+// first record that is of none of the six kinds, or as many as `answers` has room for.
 // Their answers' numbers go to `answers`, one byte each, and the state after them to `state`, as far as it has room; the rest of
 // both is as it was. Load's answer goes to *number and *place. Where that is not 0, no call is run, and `answers` and `state`
 // are as they were.
