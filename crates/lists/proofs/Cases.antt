@@ -1,12 +1,12 @@
 -- Laws of tests: a split that keeps the test's equation, and the parts of a conjunction and of a disjunction.
-use Prim.Native.Nat.{ℕ, _≤_, _<_}
+use Prim.Native.Nat.{ℕ, zero, suc, _≤_, _<_}
 use mathlib.Core.Path.{_≡_, refl, sym, _∙_}
 use mathlib.Core.Logic.{_⊎_, inl, inr, _↔_}
 use mathlib.Core.Bool.{Bool, true, false, not, _&&_, _||_, and-eq-true-iff}
 use native.Mathlib.Omega.{arith}
 use lib.Dec.{leb, ltb, eqb}
-use borrow.Author.Tests.{ltb-true, ltb-false, leb-true, leb-false, eqb-true, eqb-false, le-leb, lt-leb, eq-eqb, not-true, not-false}
-use Rattle.lists.specs.Words.{if_then_else_}
+use borrow.Author.Tests.{ltb-true, ltb-false, leb-true, leb-false, eqb-true, eqb-false, le-leb, lt-leb, eq-eqb, ne-eqb, not-true, not-false}
+use Rattle.lists.specs.Words.{if_then_else_, _orElse_}
 
 -- a fact of a choice, from the two cases with the test's equation
 pub if-case : {A : Type 0} {a b : A} (P : A → Type 0) (t : Bool) → (t ≡ true → P a) → (t ≡ false → P b) → P (if t then a else b)
@@ -74,3 +74,18 @@ pub either-yes : (a b : Bool) → (a ≡ true) ⊎ (b ≡ true) → (a || b) ≡
 either-yes true b w = refl
 either-yes false b (inl e) = not-both false e refl
 either-yes false b (inr e) = e
+
+-- a, or b where a is 0
+pub or-first : (a b : ℕ) → (a ≡ 0 → ⊥) → a ≡ a orElse b
+or-first zero b h = absurd (h refl)
+or-first (suc a) b h = refl
+
+pub or-second : (a b : ℕ) → a ≡ 0 → b ≡ a orElse b
+or-second a b e = rw e
+
+pub or-none : (a : ℕ) → a orElse 0 ≡ a
+or-none zero = refl
+or-none (suc a) = refl
+
+pub or-if : (a b : ℕ) → a orElse b ≡ (if eqb a 0 then b else a)
+or-if a b = cases (eq-or-ne a 0) (λ e. rw (eq-eqb a 0 e) (sym (or-second a b e))) (λ n. rw (ne-eqb a 0 n) (sym (or-first a b n)))

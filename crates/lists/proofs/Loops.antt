@@ -53,6 +53,10 @@ module _ (p : ℕ → Bool) where
   unfolding least
   least-nothing = refl
 
+  pub least-next : (i : ℕ) → least (i + 1) p ≡ least i p orElse (if p (i + 1) then i + 1 else 0)
+  unfolding least
+  least-next i = rw add-one
+
   pub least-more : (i : ℕ) → least i p ≡ 0 → p (i + 1) ≡ false → least (i + 1) p ≡ 0
   unfolding least
   least-more i before here = rw (add-one i, least, before, ← add-one i, here)

@@ -151,3 +151,15 @@ module _ {A : Type 0} (none : A) where
       rest : (j : ℕ) → P (nth none l j)
       rest zero = n
       rest (suc j) = f (suc (suc j))
+
+-- `each` over a table is a table, and tables of functions that agree are the same
+pub each-made : {A B : Type 0} (f : ℕ → A → B) (n : ℕ) (g : ℕ → A) → each f (tabulate n g) ≡ tabulate n (λ (k : ℕ). f k (g k))
+unfolding each tabulate
+each-made f zero g = refl
+each-made f (suc n) g = ap (λ (r : List _). f 1 (g 1) ∷ r) (each-made (λ (k : ℕ). f (suc k)) n (λ (k : ℕ). g (suc k)))
+
+pub tabulate-same : {A : Type 0} (n : ℕ) (f g : ℕ → A) → ((k : ℕ) → 1 ≤ k → k ≤ n → f k ≡ g k) → tabulate n f ≡ tabulate n g
+unfolding tabulate
+tabulate-same zero f g h = refl
+tabulate-same (suc n) f g h =
+    rw (h 1 (omega arith) (omega arith), tabulate-same n (λ (k : ℕ). f (suc k)) (λ (k : ℕ). g (suc k)) (λ k low high. h (suc k) (omega arith) (omega arith)))

@@ -3,7 +3,7 @@
 ghost use mathlib.Core.Path.{_≡_};
 ghost use Prim.Native.Nat.{_-_, min, max};
 ghost use lib.Dec.{eqb};
-ghost use Rattle.lists.specs.Words.{if_then_else_, at, each, least};
+ghost use Rattle.lists.specs.Words.{if_then_else_, at, each, tabulate, _orElse_, least};
 ghost use Rattle.trains.specs.Train.{mostTrains, withSpeed, withAsking, isOn, nextIn, nearIn};
 ghost use Rattle.trains.specs.Steps.{speedIn, sped, wantsIn, requested, asked, granted, calmed};
 use lists::entry_u8;
@@ -146,36 +146,50 @@ fn asked_all(tables: Tables, trains: [Train; 24]) -> [u8; 24]
     new
 }
 
-// The least number of an entry that is s; 0 where there is none.
-fn served_first(asked: &[u8; 24], s: u8) -> u8
-    ensures { λ r. ⌜ r ≡ least mostTrains (λ t. eqb (at (now (asked .entry)) t) s) ⌝ }
+// Who has a segment keeps it; a free one goes to the other.
+fn held_or(holder: u8, other: u8) -> u8
+    ensures { λ r. ⌜ r ≡ holder orElse other ⌝ }
 {
+    if holder != 0 {
+        return holder;
+    }
+    other
+}
+
+// Train t asks for segment s, which is its own unless a train before it asked for it too.
+fn offer(first: &mut [u8], s: u8, t: u8)
+    ensures { λ _. ⌜ now (first .exit) ≡ each (λ k h. if eqb k s then at (now (first .entry)) s orElse t else h) (now (first .entry)) ⌝ }
+{
+    if s == 0 {
+        return;
+    }
+    if first.len() < s as usize {
+        return;
+    }
+    let i = s as usize - 1;
+    first[i] = held_or(first[i], t);
+}
+
+// Of each segment the least train that asks for it; 0 where none does.
+fn first_askers(asked: &[u8; 24]) -> [u8; 62]
+    ensures { λ r. ⌜ r ≡ tabulate 62 (λ s. least mostTrains (λ t. eqb (at (now (asked .entry)) t) s)) ⌝ }
+{
+    let mut first = [0u8; 62];
     let mut i: usize = 0;
     while i < 24 {
-        if entry_u8(asked, i + 1) == s {
-            return (i + 1) as u8;
-        }
+        offer(&mut first, entry_u8(asked, i + 1), (i + 1) as u8);
         i += 1;
     }
-    0
+    first
 }
 
-fn granted_one(asked: &[u8; 24], s: u8, h: u8) -> u8
-    ensures { λ r. ⌜ r ≡ (if eqb h 0 then least mostTrains (λ t. eqb (at (now (asked .entry)) t) s) else h) ⌝ }
-{
-    if h != 0 {
-        return h;
-    }
-    served_first(asked, s)
-}
-
-fn granted_by(asked: [u8; 24], allocations: [u8; 62]) -> [u8; 62]
-    ensures { λ r. ⌜ r ≡ each (λ s h. if eqb h 0 then least mostTrains (λ t. eqb (at asked t) s) else h) allocations ⌝ }
+fn granted_by(first: [u8; 62], allocations: [u8; 62]) -> [u8; 62]
+    ensures { λ r. ⌜ r ≡ each (λ s h. h orElse at first s) allocations ⌝ }
 {
     let mut new = allocations;
     let mut i: usize = 0;
     while i < 62 {
-        new[i] = granted_one(&asked, (i + 1) as u8, allocations[i]);
+        new[i] = held_or(allocations[i], first[i]);
         i += 1;
     }
     new
@@ -184,7 +198,8 @@ fn granted_by(asked: [u8; 24], allocations: [u8; 62]) -> [u8; 62]
 pub fn granted_all(tables: Tables, trains: [Train; 24], allocations: [u8; 62]) -> [u8; 62]
     ensures { λ r. ⌜ r ≡ each (granted tables trains) allocations ⌝ }
 {
-    granted_by(asked_all(tables, trains), allocations)
+    let asked = asked_all(tables, trains);
+    granted_by(first_askers(&asked), allocations)
 }
 
 pub fn calmed_all(trains: [Train; 24]) -> [Train; 24]

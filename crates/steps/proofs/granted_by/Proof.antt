@@ -1,34 +1,31 @@
 use Prim.Native.Nat.{ℕ, _-_}
+use mathlib.Core.Path.{_∙_, ap, sym}
 use native.Mathlib.Omega.{arith}
-use lib.Dec.{eqb}
+use lib.ListN.{getD}
 use borrow.Author.Needs.{needs}
-use Rattle.lists.specs.Words.{if_then_else_, at, least}
-use Rattle.trains.specs.Train.{mostTrains}
+use Rattle.lists.specs.Words.{at, _orElse_}
 use Rattle.lists.proofs.Loops.{Made, make-begin, make-more, make-over}
+use Rattle.lists.proofs.Numbered.{nth-index}
 use Rattle.steps.proofs.granted_by.Statement.{statement}
 use Rattle.steps.proofs.granted_by.Tie as tie
 
 abbrev Inv-loop : tie.InvT-loop
-Inv-loop asked allocations new₀ i₀ new i =
-    Made 62 (λ (s h : ℕ). if eqb h 0 then least mostTrains (λ (t : ℕ). eqb (at asked t) s) else h) allocations allocations i new
+Inv-loop first allocations new₀ i₀ new i = Made 62 (λ (s h : ℕ). h orElse at first s) allocations allocations i new
 
 abbrev μ-loop : tie.MeasureT-loop
-μ-loop asked allocations new₀ i₀ new i = 62 - i
+μ-loop first allocations new₀ i₀ new i = 62 - i
 
 loop-holds : tie.Need-loop-holds Inv-loop μ-loop
 loop-holds c = make-begin (search needs) (search needs)
 
-add-granted-one : tie.Need-add-granted-one Inv-loop μ-loop
-add-granted-one c = omega arith
+array-read-held-or : tie.Need-array-read-held-or Inv-loop μ-loop
+array-read-held-or c = omega arith
 
-cast-granted-one : tie.Need-cast-granted-one Inv-loop μ-loop
-cast-granted-one c = omega arith
+array-read-held-or-2 : tie.Need-array-read-held-or-2 Inv-loop μ-loop
+array-read-held-or-2 c = omega arith
 
-array-read-granted-one : tie.Need-array-read-granted-one Inv-loop μ-loop
-array-read-granted-one c = omega arith
-
-granted-one-requires : tie.Need-granted-one-requires Inv-loop μ-loop
-granted-one-requires c κs = search needs
+held-or-requires : tie.Need-held-or-requires Inv-loop μ-loop
+held-or-requires c κs = search needs
 
 array-write-new : tie.Need-array-write-new Inv-loop μ-loop
 array-write-new c = omega arith
@@ -41,8 +38,9 @@ loop-less c = omega arith
 
 loop-again : tie.Need-loop-again Inv-loop μ-loop
 loop-again c =
-    make-more (c .before .before .before .loop .inv) _ (c .before .before .loop-test .taken)
-    (c .granted-one .ensures)
+    let l = c .before .before in
+    make-more (l .loop .inv) 0 (c .before .loop-test .taken)
+    (c .held-or .ensures ∙ ap (λ (x : ℕ). getD (l .before .args .t2) (l .loop .i) 0 orElse x) (sym (nth-index 0 (l .before .args .t1) (l .loop .i))))
 
 returns : tie.Need-returns Inv-loop μ-loop
 returns c = make-over (c .before .loop .inv) (c .loop-test .left)
@@ -54,10 +52,9 @@ granted-by-spec =
     Inv-loop
     μ-loop
     loop-holds
-    add-granted-one
-    cast-granted-one
-    array-read-granted-one
-    granted-one-requires
+    array-read-held-or
+    array-read-held-or-2
+    held-or-requires
     array-write-new
     add-i
     loop-less
