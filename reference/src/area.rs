@@ -18,7 +18,7 @@ struct Train {
 
 /// What follows from a train's way: its place in the route (from 1), its position, its own
 /// segment, and its "next", "the route's next segment, if any".
-struct Spot {
+struct Whereabouts {
     place: u8,
     position: u32,
     own: u8,
@@ -28,14 +28,14 @@ struct Spot {
 /// "Its own segment is the one of its route that starts at or before its way and ends beyond
 /// it, lengths summed from the route's start. .. Its position is its way less that segment's
 /// start." None if the way is beyond the route's end, which no sound area has.
-fn spot(tables: &Tables, train: &Train) -> Option<Spot> {
+fn whereabouts(tables: &Tables, train: &Train) -> Option<Whereabouts> {
     let listed = tables.route(train.route).listed();
     let mut start = 0;
     for (index, &own) in listed.iter().enumerate() {
         let end = start + u64::from(tables.segment(own).length);
         if train.way < end {
             let position = (train.way - start) as u32;
-            return Some(Spot { place: index as u8 + 1, position, own, next: listed.get(index + 1).copied() });
+            return Some(Whereabouts { place: index as u8 + 1, position, own, next: listed.get(index + 1).copied() });
         }
         start = end;
     }
@@ -109,7 +109,7 @@ impl Area {
             None => RawTrain::OFF,
             Some(train) => {
                 // A way beyond the route's end would show as place 0, which is unsound.
-                let (place, position) = spot(&self.tables, &train).map_or((0, 0), |spot| (spot.place, spot.position));
+                let (place, position) = whereabouts(&self.tables, &train).map_or((0, 0), |at| (at.place, at.position));
                 RawTrain { route: train.route, place, position, speed: train.speed, asks: train.asks }
             }
         });
@@ -182,8 +182,8 @@ impl Area {
             return 15;
         };
         // 20 "segment is not the route's last or lacks the exit flag"
-        let spot = self.spot(&on);
-        if spot.next.is_some() || self.tables.segment(spot.own).flags & EXIT == 0 {
+        let at = self.whereabouts(&on);
+        if at.next.is_some() || self.tables.segment(at.own).flags & EXIT == 0 {
             return 20;
         }
         // "the train goes off; all allocated to it is freed"
@@ -211,15 +211,15 @@ impl Area {
         for number in 1..=24 {
             // "entries of trains off are ignored"
             let Some(mut train) = self.trains[usize::from(number) - 1] else { continue };
-            let spot = self.spot(&train);
-            let limit = self.tables.segment(spot.own).limit;
+            let at = self.whereabouts(&train);
+            let limit = self.tables.segment(at.own).limit;
             // "Low = max(0, speed − `b`)."
             let low = train.speed.saturating_sub(self.tables.b);
-            let high = if !self.near(&spot) {
+            let high = if !self.near(&at) {
                 // "Not near: up to the segment's limit."
                 limit
             } else {
-                match spot.next {
+                match at.next {
                     // "Near with next allocated to it: up to the smaller of both limits."
                     Some(next) if self.allocated(next) == number => limit.min(self.tables.segment(next).limit),
                     // "Near without it: exactly low."
@@ -245,9 +245,9 @@ impl Area {
         }
         for number in 1..=24 {
             let Some(mut train) = self.trains[usize::from(number) - 1] else { continue };
-            let spot = self.spot(&train);
+            let at = self.whereabouts(&train);
             // "a near train whose next exists and isn't allocated to it asks"
-            train.asks = self.near(&spot) && spot.next.is_some_and(|next| self.allocated(next) != number);
+            train.asks = self.near(&at) && at.next.is_some_and(|next| self.allocated(next) != number);
             self.trains[usize::from(number) - 1] = Some(train);
         }
         self.due = GRANT;
@@ -266,7 +266,7 @@ impl Area {
         for number in 1..=24 {
             let Some(mut train) = self.trains[usize::from(number) - 1] else { continue };
             if train.asks {
-                if let Some(next) = self.spot(&train).next {
+                if let Some(next) = self.whereabouts(&train).next {
                     if self.allocated(next) == 0 {
                         self.allocate(next, number);
                     }
@@ -288,7 +288,7 @@ impl Area {
         }
         for number in 1..=24u8 {
             let Some(mut train) = self.trains[usize::from(number) - 1] else { continue };
-            let old = self.spot(&train);
+            let old = self.whereabouts(&train);
             // "position + speed. At or above the length it moves on: length subtracted, old
             // segment freed." The way grows by the speed; the rest follows from the way.
             train.way += u64::from(train.speed);
@@ -318,13 +318,13 @@ impl Area {
         sound(&self.record())
     }
 
-    fn spot(&self, train: &Train) -> Spot {
-        spot(&self.tables, train).expect("a train of a sound record has an own segment")
+    fn whereabouts(&self, train: &Train) -> Whereabouts {
+        whereabouts(&self.tables, train).expect("a train of a sound record has an own segment")
     }
 
     /// "Near means position ≥ length − `d`."
-    fn near(&self, spot: &Spot) -> bool {
-        spot.position + self.tables.d >= self.tables.segment(spot.own).length
+    fn near(&self, at: &Whereabouts) -> bool {
+        at.position + self.tables.d >= self.tables.segment(at.own).length
     }
 
     fn allocated(&self, segment: u8) -> u8 {

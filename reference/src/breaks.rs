@@ -2,8 +2,9 @@
 //! can be broken. The checks are set right afterwards, but for rules 1 and 2.
 
 use crate::braking::s;
-use crate::file::{route_start, segment_start};
-use crate::random::Random;
+use crate::file::{check, route_start, segment_start};
+use crate::random::{walk_on, Random};
+use crate::tables::Segment;
 use crate::write::Description;
 
 /// The rule that is broken, what of it, and the change; false where the area has no place for it.
@@ -22,17 +23,19 @@ pub enum Where {
 
 pub const PLACES: [Where; 3] = [Where::First, Where::Middle, Where::Last];
 
+/// The breaks of this rule and of those after it.
+pub fn from_rule(rule: u8) -> &'static [Break] {
+    &BREAKS[BREAKS.partition_point(|one| one.rule < rule)..]
+}
+
 impl Where {
-    /// One of low to high, both included; none where low is above high.
+    /// One of low to high, both included: the middle is strictly between them. None where there is none.
     fn pick(self, random: &mut Random, low: usize, high: usize) -> Option<usize> {
-        if low > high {
-            return None;
+        match self {
+            Where::First => (low <= high).then_some(low),
+            Where::Last => (low <= high).then_some(high),
+            Where::Middle => (low + 2 <= high).then(|| random.within(low as u64 + 1, high as u64 - 1) as usize),
         }
-        Some(match self {
-            Where::First => low,
-            Where::Last => high,
-            Where::Middle => random.within(low as u64, high as u64) as usize,
-        })
     }
 
     fn of<T: Copy>(self, random: &mut Random, list: &[T]) -> Option<T> {
@@ -56,18 +59,42 @@ fn put32(file: &mut [u8], at: usize, value: u32) -> bool {
     true
 }
 
-/// A segment's record, by `place` among 1 to N.
-fn segment(random: &mut Random, area: &Description, place: Where) -> usize {
-    segment_start(place.pick(random, 1, area.segments.len()).unwrap_or(1) as u8)
+/// Where a segment's record starts, of 1 to N.
+fn segment(random: &mut Random, area: &Description, place: Where) -> Option<usize> {
+    place.pick(random, 1, area.segments.len()).map(|number| segment_start(number as u8))
 }
 
-fn route(random: &mut Random, area: &Description, place: Where) -> usize {
-    place.pick(random, 1, area.routes.len()).unwrap_or(1)
+/// Where a route's record starts, of 1 to R.
+fn route(random: &mut Random, area: &Description, place: Where) -> Option<usize> {
+    place.pick(random, 1, area.routes.len()).map(|number| route_start(number as u8))
 }
 
-fn zero_of(random: &mut Random, file: &mut [u8], place: Where, low: usize, high: usize) -> bool {
+/// Something else than zero at one of these bytes.
+fn zero_of(random: &mut Random, file: &mut [u8], place: Where, bytes: impl Iterator<Item = usize>) -> bool {
+    let bytes: Vec<usize> = bytes.collect();
     let value = random.within(1, 255) as u8;
-    place.pick(random, low, high).is_some_and(|at| set(file, at, value))
+    place.of(random, &bytes).is_some_and(|at| set(file, at, value))
+}
+
+/// A block with a sum (0 the first, 1 the second) of 0 that its check stores as 255.
+fn stored_as_255(file: &mut [u8], number: usize, sum: usize) -> bool {
+    let block = &mut file[512 * number..][..512];
+    // the last byte before the check, a zero, counts once in either sum
+    block[509] = 255 - check(block)[sum];
+    let right = check(block);
+    block[510..512].copy_from_slice(&right);
+    block[510 + sum] = 255;
+    right[sum] == 0
+}
+
+/// Where the pair of next links and the pair of previous links of each segment stand in the file; `used`: those with a link.
+fn link_pairs(area: &Description, used: bool) -> Vec<usize> {
+    (1..)
+        .zip(&area.segments)
+        .flat_map(|(number, segment)| [(segment_start(number) + 6, segment.next[0]), (segment_start(number) + 8, segment.previous[0])])
+        .filter(|&(_, first)| !used || first != 0)
+        .map(|(at, _)| at)
+        .collect()
 }
 
 /// Two segments, numbered from 1, with from ≥ to, from's next and to's previous links not full, and no link between them.
@@ -97,6 +124,26 @@ fn unlink(file: &mut [u8], at: usize, slot: usize) -> bool {
     true
 }
 
+/// A step of a route to a number that is `wrong` after the segment before it. The route goes on from there along next links: no
+/// other step of it is wrong.
+fn step(random: &mut Random, area: &Description, file: &mut [u8], place: Where, wrong: fn(&Segment, u8, u8) -> bool) -> bool {
+    let wrong_after = |before: u8| (1..=area.segments.len() as u8).filter(move |&to| wrong(area.segment(before), before, to));
+    let steps: Vec<(usize, usize)> = (0..area.routes.len())
+        .flat_map(|k| (1..area.routes[k].len()).map(move |p| (k, p)))
+        .filter(|&(k, p)| wrong_after(area.routes[k][p - 1]).next().is_some())
+        .collect();
+    let Some((k, p)) = place.of(random, &steps) else { return false };
+    let mut route = area.routes[k][..p].to_vec();
+    let to: Vec<u8> = wrong_after(route[p - 1]).collect();
+    route.push(*random.of(&to));
+    let route = walk_on(random, &area.segments, route, area.routes[k].len());
+    let record = &mut file[route_start(k as u8 + 1)..][..32];
+    record.fill(0);
+    record[0] = route.len() as u8;
+    record[1..=route.len()].copy_from_slice(&route);
+    true
+}
+
 // one to a line where it fits, as a table
 #[rustfmt::skip]
 pub const BREAKS: &[Break] = &[
@@ -105,56 +152,43 @@ pub const BREAKS: &[Break] = &[
     Break { rule: 2, name: "byte changed", change: |r, _, f, w| { let x = r.within(1, 254) as u8; w.pick(r, 0, 2559).is_some_and(|at| { f[at] ^= x; true }) } },
     Break { rule: 2, name: "first sum", change: |r, _, f, w| w.pick(r, 0, 4).is_some_and(|k| { f[512 * k + 510] ^= 1; true }) },
     Break { rule: 2, name: "second sum", change: |r, _, f, w| w.pick(r, 0, 4).is_some_and(|k| { f[512 * k + 511] ^= 128; true }) },
+    Break { rule: 2, name: "first sum of 0 stored as 255", change: |r, _, f, w| w.pick(r, 0, 4).is_some_and(|k| stored_as_255(f, k, 0)) },
+    Break { rule: 2, name: "second sum of 0 stored as 255", change: |r, _, f, w| w.pick(r, 0, 4).is_some_and(|k| stored_as_255(f, k, 1)) },
     Break { rule: 3, name: "kind", change: |r, _, f, w| w.pick(r, 0, 4).is_some_and(|k| { f[512 * k + 496] ^= 1; true }) },
     Break { rule: 3, name: "block number", change: |r, _, f, w| w.pick(r, 0, 4).is_some_and(|k| { f[512 * k + 497] ^= 4; true }) },
-    Break { rule: 3, name: "zero of a tail", change: |r, _, f, w| { let k = r.within(0, 4) as usize; zero_of(r, f, w, 512 * k + 498, 512 * k + 509) } },
-    Break { rule: 3, name: "zero of a route block", change: |r, _, f, w| { let k = r.within(3, 4) as usize; zero_of(r, f, w, 512 * k + 480, 512 * k + 495) } },
-    Break { rule: 4, name: "version", change: |_, _, f, w| set(f, 0, [0, 2, 255][w as usize]) },
-    Break { rule: 4, name: "segments", change: |_, _, f, w| set(f, 1, [0, 63, 255][w as usize]) },
-    Break { rule: 4, name: "routes", change: |_, _, f, w| set(f, 2, [0, 31, 255][w as usize]) },
+    Break { rule: 3, name: "zero of a tail", change: |r, _, f, w| zero_of(r, f, w, (0..5).flat_map(|k| (498..510).map(move |at| 512 * k + at))) },
+    Break { rule: 3, name: "zero of a route block", change: |r, _, f, w| zero_of(r, f, w, (3..5).flat_map(|k| (480..496).map(move |at| 512 * k + at))) },
+    Break { rule: 4, name: "version 0, 2, 255", change: |_, _, f, w| set(f, 0, [0, 2, 255][w as usize]) },
+    Break { rule: 4, name: "segments 0, 63, 255", change: |_, _, f, w| set(f, 1, [0, 63, 255][w as usize]) },
+    Break { rule: 4, name: "routes 0, 31, 255", change: |_, _, f, w| set(f, 2, [0, 31, 255][w as usize]) },
     Break { rule: 4, name: "byte 3", change: |_, _, f, w| set(f, 3, [1, 128, 255][w as usize]) },
-    Break { rule: 4, name: "gmax", change: |_, _, f, w| put16(f, 4, [0, 1001, 65_535][w as usize]) },
-    Break { rule: 4, name: "b", change: |_, a, f, w| put16(f, 6, [0, a.gmax + 1, 65_535][w as usize]) },
-    Break { rule: 4, name: "d", change: |_, _, f, w| put32(f, 8, [0, 1_000_001, u32::MAX][w as usize]) },
-    Break { rule: 4, name: "zero of the header", change: |r, _, f, w| zero_of(r, f, w, 12, 495) },
+    Break { rule: 4, name: "gmax 0, 1001, 65,535", change: |_, _, f, w| put16(f, 4, [0, 1001, 65_535][w as usize]) },
+    Break { rule: 4, name: "b 0, gmax + 1, 65,535", change: |_, a, f, w| put16(f, 6, [0, a.gmax + 1, 65_535][w as usize]) },
+    Break { rule: 4, name: "d 0, 1,000,001, the greatest number", change: |_, _, f, w| put32(f, 8, [0, 1_000_001, u32::MAX][w as usize]) },
+    Break { rule: 4, name: "zero of the header", change: |r, _, f, w| zero_of(r, f, w, 12..496) },
     Break { rule: 5, name: "margin", change: |r, a, f, w| {
         let least = s(a.b.into(), a.gmax.into()) as usize;
         w.pick(r, 1, least - 1).is_some_and(|d| put32(f, 8, d as u32))
     } },
-    Break { rule: 6, name: "length at its bound", change: |r, a, f, w| { let at = segment(r, a, w); put32(f, at, a.d + u32::from(a.gmax)) } },
-    Break { rule: 6, name: "length over 1,000,000", change: |r, a, f, w| { let at = segment(r, a, w); put32(f, at, if r.one_in(2) { 1_000_001 } else { u32::MAX }) } },
-    Break { rule: 6, name: "length 0", change: |r, a, f, w| { let at = segment(r, a, w); put32(f, at, 0) } },
-    Break { rule: 6, name: "limit 0", change: |r, a, f, w| { let at = segment(r, a, w); put16(f, at + 4, 0) } },
-    Break { rule: 6, name: "limit over gmax", change: |r, a, f, w| { let at = segment(r, a, w); put16(f, at + 4, if r.one_in(2) { a.gmax + 1 } else { u16::MAX }) } },
-    Break { rule: 6, name: "link over N", change: |r, a, f, w| {
-        let at = segment(r, a, w);
-        let slot = *r.of(&[6, 8]);
-        set(f, at + slot, if r.one_in(2) { a.segments.len() as u8 + 1 } else { 255 })
-    } },
-    Break { rule: 6, name: "second link over N", change: |r, a, f, w| {
-        let at = segment(r, a, w);
-        let slot = *r.of(&[6, 8]);
-        f[at + slot] != 0 && set(f, at + slot + 1, a.segments.len() as u8 + 1)
-    } },
+    // the header is right up to a `d` of 1,000,000, and no length is: from 1,000,000 - gmax on none is above d + gmax
+    Break { rule: 6, name: "d up to 1,000,000", change: |r, a, f, w| w.pick(r, 1_000_000 - usize::from(a.gmax), 1_000_000).is_some_and(|d| put32(f, 8, d as u32)) },
+    Break { rule: 6, name: "length at its bound", change: |r, a, f, w| segment(r, a, w).is_some_and(|at| put32(f, at, a.d + u32::from(a.gmax))) },
+    Break { rule: 6, name: "length over 1,000,000", change: |r, a, f, w| segment(r, a, w).is_some_and(|at| put32(f, at, *r.of(&[1_000_001, u32::MAX]))) },
+    Break { rule: 6, name: "length 0", change: |r, a, f, w| segment(r, a, w).is_some_and(|at| put32(f, at, 0)) },
+    Break { rule: 6, name: "limit 0", change: |r, a, f, w| segment(r, a, w).is_some_and(|at| put16(f, at + 4, 0)) },
+    Break { rule: 6, name: "limit over gmax", change: |r, a, f, w| segment(r, a, w).is_some_and(|at| put16(f, at + 4, *r.of(&[a.gmax + 1, u16::MAX]))) },
+    Break { rule: 6, name: "link over N", change: |r, a, f, w| w.of(r, &link_pairs(a, false)).is_some_and(|at| set(f, at, *r.of(&[a.segments.len() as u8 + 1, 255]))) },
+    Break { rule: 6, name: "second link over N", change: |r, a, f, w| w.of(r, &link_pairs(a, true)).is_some_and(|at| set(f, at + 1, a.segments.len() as u8 + 1)) },
     Break { rule: 6, name: "second link alone", change: |r, a, f, w| {
-        let at = segment(r, a, w);
-        let slot = *r.of(&[6, 8]);
-        f[at + slot] = 0;
-        f[at + slot + 1] = r.within(1, a.segments.len() as u64) as u8;
-        true
+        w.of(r, &link_pairs(a, false)).is_some_and(|at| { f[at] = 0; f[at + 1] = r.within(1, a.segments.len() as u64) as u8; true })
     } },
-    Break { rule: 6, name: "second link the same", change: |r, a, f, w| {
-        let at = segment(r, a, w);
-        let slot = *r.of(&[6, 8]);
-        f[at + slot + 1] = f[at + slot];
-        f[at + slot] != 0
+    Break { rule: 6, name: "second link the same", change: |r, a, f, w| w.of(r, &link_pairs(a, true)).is_some_and(|at| { f[at + 1] = f[at]; true }) },
+    Break { rule: 6, name: "flags", change: |r, a, f, w| segment(r, a, w).is_some_and(|at| set(f, at + 10, *r.of(&[4, 128, 255]))) },
+    Break { rule: 6, name: "zero of a segment record", change: |r, a, f, w| {
+        zero_of(r, f, w, (1..=a.segments.len()).flat_map(|k| (11..16).map(move |at| segment_start(k as u8) + at)))
     } },
-    Break { rule: 6, name: "flags", change: |r, a, f, w| { let at = segment(r, a, w); let x = *r.of(&[4, 128, 255]); set(f, at + 10, x) } },
-    Break { rule: 6, name: "zero of a segment record", change: |r, a, f, w| { let at = segment(r, a, w); let k = r.within(11, 15) as usize; zero_of(r, f, w, at + k, at + k) } },
     Break { rule: 6, name: "record above N", change: |r, a, f, w| {
-        let k = r.within(0, 15) as usize;
-        let value = r.within(1, 255) as u8;
-        w.pick(r, a.segments.len() + 1, 62).is_some_and(|s| set(f, segment_start(s as u8) + k, value))
+        zero_of(r, f, w, (a.segments.len() + 1..=62).flat_map(|k| (0..16).map(move |at| segment_start(k as u8) + at)))
     } },
     Break { rule: 7, name: "next without previous", change: |r, a, f, w| {
         w.of(r, &linked(a, false)).is_some_and(|(k, slot)| unlink(f, segment_start(k as u8) + 8, slot))
@@ -178,26 +212,20 @@ pub const BREAKS: &[Break] = &[
             put16(f, segment_start(a.segments[k - 1].next[slot]) + 4, if r.one_in(2) { below } else { r.within(1, below.into()) as u16 })
         })
     } },
-    Break { rule: 10, name: "count", change: |r, a, f, w| { let k = route(r, a, w); let x = *r.of(&[0, 32, 255]); set(f, route_start(k as u8), x) } },
+    Break { rule: 10, name: "count", change: |r, a, f, w| route(r, a, w).is_some_and(|at| set(f, at, *r.of(&[0, 32, 255]))) },
     Break { rule: 10, name: "number outside", change: |r, a, f, w| {
-        let k = route(r, a, w);
-        let place = w.pick(r, 1, a.routes[k - 1].len()).unwrap();
-        let x = *r.of(&[0, a.segments.len() as u8 + 1, 255]);
-        set(f, route_start(k as u8) + place, x)
+        let numbers: Vec<usize> = (1..).zip(&a.routes).flat_map(|(k, route)| (1..=route.len()).map(move |p| route_start(k) + p)).collect();
+        w.of(r, &numbers).is_some_and(|at| set(f, at, *r.of(&[0, a.segments.len() as u8 + 1, 255])))
     } },
-    Break { rule: 10, name: "step that is no link", change: |r, a, f, w| {
-        let k = route(r, a, w);
-        let place = w.pick(r, 2, a.routes[k - 1].len());
-        place.is_some_and(|p| { let before = a.routes[k - 1][p - 2]; set(f, route_start(k as u8) + p, before) })
+    Break { rule: 10, name: "step that is no next link", change: |r, a, f, w| step(r, a, f, w, |segment, _, to| !segment.next.contains(&to)) },
+    Break { rule: 10, name: "step to a previous link", change: |r, a, f, w| step(r, a, f, w, |segment, _, to| segment.previous.contains(&to)) },
+    Break { rule: 10, name: "step to a greater number that is no link", change: |r, a, f, w| {
+        step(r, a, f, w, |segment, number, to| to > number && !segment.next.contains(&to))
     } },
     Break { rule: 10, name: "zero of a route record", change: |r, a, f, w| {
-        let k = route(r, a, w);
-        let value = r.within(1, 255) as u8;
-        w.pick(r, a.routes[k - 1].len() + 1, 31).is_some_and(|p| set(f, route_start(k as u8) + p, value))
+        zero_of(r, f, w, (1..).zip(&a.routes).flat_map(|(k, route)| (route.len() + 1..32).map(move |p| route_start(k) + p)))
     } },
     Break { rule: 10, name: "record above R", change: |r, a, f, w| {
-        let k = r.within(0, 31) as usize;
-        let value = r.within(1, 255) as u8;
-        w.pick(r, a.routes.len() + 1, 30).is_some_and(|n| set(f, route_start(n as u8) + k, value))
+        zero_of(r, f, w, (a.routes.len() + 1..=30).flat_map(|k| (0..32).map(move |at| route_start(k as u8) + at)))
     } },
 ];

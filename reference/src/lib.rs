@@ -1,6 +1,6 @@
 //! One radio block area: segments, routes, trains.
 //!
-//! A second program, written from document 01 and from nothing else, to be read beside it. Sentences of the paper stand in quotation marks. Where the paper leaves
+//! A second program, written from document 01 and, in `demand3`, from the words of demand 3 that it names, and from nothing else; to be read beside it. Sentences of the paper stand in quotation marks. Where the paper leaves
 //! something open, a comment begins with `reading:`.
 
 // The modules in the paper's order.
@@ -29,8 +29,9 @@ pub mod demand3;
 // a writer of files for tests, and Area A
 pub mod write;
 
-// the binary script, random areas and lists, and the core linked in: not of the paper
+// the binary script, random areas, lists and records, and the core linked in: not of the paper
 pub mod breaks;
+pub mod edges;
 pub mod random;
 pub mod script;
 #[cfg(feature = "unit")]

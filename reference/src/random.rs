@@ -120,16 +120,19 @@ pub fn area(random: &mut Random, lively: bool) -> Description {
 
 /// A walk along next links.
 fn route(random: &mut Random, segments: &[Segment]) -> Vec<u8> {
-    let mut at = random.edgy(1, segments.len() as u64) as u8;
-    let mut route = vec![at];
+    let first = random.edgy(1, segments.len() as u64) as u8;
     let longest = random.edgy(1, 31) as usize;
+    walk_on(random, segments, vec![first], longest)
+}
+
+/// A route walked on along next links as far as they go, to `longest` segments at the most.
+pub fn walk_on(random: &mut Random, segments: &[Segment], mut route: Vec<u8>, longest: usize) -> Vec<u8> {
     while route.len() < longest {
-        let links: Vec<u8> = segments[usize::from(at) - 1].next.into_iter().filter(|&link| link != 0).collect();
+        let links: Vec<u8> = segments[usize::from(route[route.len() - 1]) - 1].next_links().collect();
         if links.is_empty() {
             break;
         }
-        at = *random.of(&links);
-        route.push(at);
+        route.push(*random.of(&links));
     }
     route
 }
@@ -142,14 +145,33 @@ fn number(random: &mut Random, most: u64) -> u16 {
     }
 }
 
-fn wishes(random: &mut Random, gmax: u16) -> Vec<u16> {
+/// A segment's limit, which a train there may have, or one above it, which it may not.
+fn about_a_limit(random: &mut Random, area: &Description) -> u16 {
+    random.of(&area.segments).limit + random.within(0, 1) as u16
+}
+
+/// Mostly 24 wishes: all alike, or each for itself.
+fn wishes(random: &mut Random, area: &Description) -> Vec<u16> {
     let count = if random.one_in(20) { *random.of(&[0, 1, 23, 25, 26, 100]) } else { 24 };
     let all = match random.draw() % 4 {
         0 => None,
         1 => Some(*random.of(&[0, 1, 65_535])),
-        _ => Some(gmax),
+        _ => Some(area.gmax),
     };
-    (0..count).map(|_| all.unwrap_or_else(|| random.edgy(0, u64::from(gmax) + 5) as u16)).collect()
+    let own = |random: &mut Random| match random.draw() % 4 {
+        0 => about_a_limit(random, area),
+        _ => random.edgy(0, u64::from(area.gmax) + 5) as u16,
+    };
+    (0..count).map(|_| all.unwrap_or_else(|| own(random))).collect()
+}
+
+/// A speed to enter with: mostly one that some segment allows, at times one that none does.
+fn entry_speed(random: &mut Random, area: &Description) -> u16 {
+    match random.draw() % 8 {
+        0 => about_a_limit(random, area),
+        1 => random.edgy(u64::from(area.gmax) + 1, 65_535) as u16,
+        _ => random.edgy(0, u64::from(area.gmax) + 1) as u16,
+    }
 }
 
 /// A call that owns its wishes.
@@ -181,10 +203,10 @@ pub fn call(random: &mut Random, area: &Description, due: u8) -> Owned {
     let routes = area.routes.len() as u64;
     let step = if random.one_in(12) { random.within(0, 3) as u8 } else { due };
     match random.draw() % 20 {
-        0..=2 => Owned::Enter(number(random, 24), number(random, routes), random.edgy(0, u64::from(area.gmax) + 1) as u16),
+        0..=2 => Owned::Enter(number(random, 24), number(random, routes), entry_speed(random, area)),
         3..=4 => Owned::Leave(number(random, 24)),
         _ => match step {
-            0 => Owned::Speed(wishes(random, area.gmax)),
+            0 => Owned::Speed(wishes(random, area)),
             1 => Owned::Request,
             2 => Owned::Grant,
             _ => Owned::Position,

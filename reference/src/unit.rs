@@ -1,7 +1,8 @@
 //! The core, linked in: a safe wrapper of the functions that include/rbu.h declares.
 
-use crate::file::{decode_tables, Refusal};
+use crate::file::Refusal;
 use crate::record::{RawTrain, Record};
+use crate::tables::Tables;
 
 #[link(name = "unit", kind = "static")]
 extern "C" {
@@ -142,8 +143,8 @@ pub fn state_of(record: &Record) -> [u8; STATE_SIZE] {
     state
 }
 
-/// The record that a file's bytes and a state spell.
-pub fn record_of(file: &[u8], state: &[u8; STATE_SIZE]) -> Record {
+/// The record that tables and a state spell.
+pub fn record_of(tables: &Tables, state: &[u8; STATE_SIZE]) -> Record {
     let mut trains = [RawTrain::OFF; 24];
     for (train, bytes) in trains.iter_mut().zip(state[64..].chunks(32)) {
         *train = RawTrain {
@@ -154,5 +155,5 @@ pub fn record_of(file: &[u8], state: &[u8; STATE_SIZE]) -> Record {
             asks: bytes[2] != 0,
         };
     }
-    Record { tables: decode_tables(file), allocations: state[1..63].try_into().unwrap(), trains, due: state[0] }
+    Record { tables: *tables, allocations: state[1..63].try_into().unwrap(), trains, due: state[0] }
 }

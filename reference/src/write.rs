@@ -16,6 +16,11 @@ pub struct Description {
 }
 
 impl Description {
+    /// Segment by number, from 1.
+    pub fn segment(&self, number: u8) -> &Segment {
+        &self.segments[usize::from(number) - 1]
+    }
+
     pub fn file(&self) -> Vec<u8> {
         let mut file = vec![0; FILE_SIZE];
         file[0] = 1;

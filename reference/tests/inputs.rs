@@ -1,8 +1,9 @@
 //! The inputs of the comparison are what they claim to be.
 
-use reference::breaks::{BREAKS, PLACES};
+use reference::breaks::{from_rule, Where, BREAKS, PLACES};
+use reference::edges::{record_at, sound_record, EDGES};
 use reference::random::{area, Random};
-use reference::{load, put_checks};
+use reference::{check, decode_tables, load, put_checks, sound, Description, Refusal};
 
 #[test]
 fn areas_made_to_meet_the_rules_are_accepted() {
@@ -26,12 +27,132 @@ fn each_break_alone_is_answered_with_its_rule() {
                     if one.rule > 2 {
                         put_checks(&mut file);
                     }
-                    hit[at] += usize::from(load(&file).err().map(|refusal| refusal.number) == Some(one.rule));
+                    let answer = load(&file).err().map(|refusal| refusal.number);
+                    assert_eq!(answer, Some(one.rule), "{}, {place:?}: {made:?}", one.name);
+                    hit[at] += 1;
                 }
             }
         }
     }
     for (one, hit) in BREAKS.iter().zip(hits) {
         assert!(hit.iter().all(|&n| n > 0), "rule {}, {}: {hit:?}", one.rule, one.name);
+    }
+}
+
+#[test]
+fn breaks_from_a_rule_on() {
+    assert!(BREAKS.is_sorted_by_key(|one| one.rule));
+    assert_eq!(from_rule(1).len(), BREAKS.len());
+    assert_eq!(from_rule(3)[0].name, "kind");
+    assert!(from_rule(11).is_empty());
+}
+
+/// The area's file with one break, if there is such a place; the checks as the break leaves them.
+fn broken(random: &mut Random, made: &Description, name: &str, place: Where) -> Option<Vec<u8>> {
+    let one = BREAKS.iter().find(|one| one.name == name).unwrap();
+    let mut file = made.file();
+    (one.change)(random, made, &mut file, place).then_some(file)
+}
+
+fn answer(mut file: Vec<u8>) -> (u8, u16) {
+    put_checks(&mut file);
+    load(&file).map_or_else(|refusal| (refusal.number, refusal.place), |_| (0, 0))
+}
+
+#[test]
+fn the_middle_is_strictly_between_first_and_last() {
+    let mut random = Random::new(12);
+    for k in 0..300 {
+        let made = area(&mut random, k % 2 == 0);
+        let n = made.segments.len() as u16;
+        let places = PLACES.map(|place| broken(&mut random, &made, "length 0", place).map(|file| answer(file).1));
+        assert_eq!((places[0], places[2]), (Some(1), Some(n)));
+        assert!(places[1].map_or(n < 3, |middle| 1 < middle && middle < n), "{places:?} of {n}");
+    }
+}
+
+/// The header is right with a `d` of 1,000,000, and wrong one above.
+#[test]
+fn bounds_of_d() {
+    let mut random = Random::new(9);
+    let made = area(&mut random, true);
+    let mut at = |name: &str, place: Where| {
+        let file = broken(&mut random, &made, name, place).unwrap();
+        (u32::from_le_bytes(file[8..12].try_into().unwrap()), answer(file))
+    };
+    assert_eq!(at("d up to 1,000,000", Where::Last), (1_000_000, (6, 1)));
+    assert_eq!(at("d 0, 1,000,001, the greatest number", Where::Middle), (1_000_001, (4, 0)));
+}
+
+/// Only the stored check is wrong with these: with it set right, a later rule speaks.
+#[test]
+fn sums_of_0_stored_as_255() {
+    let mut random = Random::new(13);
+    for k in 0..100 {
+        let made = area(&mut random, k % 2 == 0);
+        for (sum, name) in ["first sum of 0 stored as 255", "second sum of 0 stored as 255"].into_iter().enumerate() {
+            for (place, blocks) in PLACES.into_iter().zip([0..1, 1..4, 4..5]) {
+                let file = broken(&mut random, &made, name, place).unwrap();
+                let number = blocks.clone().find(|number| file[512 * number + 510 + sum] == 255).expect("a block of that place");
+                assert_eq!(check(&file[512 * number..][..512])[sum], 0);
+                assert_eq!(load(&file).unwrap_err(), Refusal { number: 2, place: number as u16 });
+                assert_eq!(answer(file).0, 3);
+            }
+        }
+    }
+}
+
+/// Of all the steps of all routes just one is no next link, and it is of the kind that the break names.
+#[test]
+fn one_step_is_wrong() {
+    let mut random = Random::new(14);
+    let mut hits = [0; 3];
+    for _ in 0..300 {
+        let made = area(&mut random, false);
+        let names = ["step that is no next link", "step to a previous link", "step to a greater number that is no link"];
+        for (k, name) in names.into_iter().enumerate() {
+            for file in PLACES.map(|place| broken(&mut random, &made, name, place)).into_iter().flatten() {
+                let tables = decode_tables(&file);
+                let steps = tables.routes.iter().flat_map(|route| route.listed().windows(2));
+                let wrong: Vec<&[u8]> = steps.filter(|step| !tables.segment(step[0]).next.contains(&step[1])).collect();
+                assert_eq!(wrong.len(), 1);
+                let (from, to) = (wrong[0][0], wrong[0][1]);
+                assert!(k != 1 || tables.segment(from).previous.contains(&to));
+                assert!(k != 2 || to > from);
+                hits[k] += 1;
+            }
+        }
+    }
+    assert!(hits.iter().all(|&n| n > 100), "{hits:?}");
+}
+
+#[test]
+fn records_made_to_be_sound_are_sound() {
+    let mut random = Random::new(10);
+    let mut most = 0;
+    for k in 0..2000u32 {
+        let tables = *load(&area(&mut random, k % 4 != 0).file()).unwrap().tables();
+        let record = sound_record(&mut random, &tables, (k % 4) as u8);
+        assert!(sound(&record), "{record:?}");
+        most = most.max(record.trains.iter().filter(|train| train.is_on()).count());
+    }
+    assert_eq!(most, 24);
+}
+
+#[test]
+fn each_edge_is_on_its_side() {
+    let mut random = Random::new(11);
+    let mut hits = vec![0; EDGES.len()];
+    for k in 0..1000 {
+        let tables = *load(&area(&mut random, k % 4 != 0).file()).unwrap().tables();
+        for (edge, hit) in EDGES.iter().zip(&mut hits) {
+            if let Some(record) = record_at(&mut random, &tables, edge) {
+                assert_eq!(sound(&record), edge.sound, "{}: {record:?}", edge.name);
+                *hit += 1;
+            }
+        }
+    }
+    for (edge, hit) in EDGES.iter().zip(hits) {
+        assert!(hit > 0, "{}", edge.name);
     }
 }

@@ -1,5 +1,6 @@
 //! The core and the second program on the same inputs, in one process: microseconds each and the ratio core / second program.
-//! Both test the whole record at every call. Answers and states go to buffers that are not cleared between runs.
+//! Both test the whole record at every call. In the replays the buffers for answers and state are not cleared between runs; for a
+//! single call the state is copied anew before each run, with and without the call.
 use reference::script::{script_of, words_of};
 use reference::unit::{self, STATE_SIZE};
 use reference::*;
@@ -52,13 +53,25 @@ fn one_call(name: &str, file: &[u8], area: &Area, call: &Call) -> (f64, f64) {
         (call.map(|call| area.call(call)), area)
     };
     let second = beyond(|| second_run(Some(call)), || second_run(None));
-    let mut after = *area;
-    let what = format!("{name} answered {}", after.call(call));
-    line(&what, core, second);
+    let (mut after, mut answer) = (*area, [99]);
+    unit::run_record(file, &script, &mut answer, &mut { before });
+    assert_eq!((answer[0], after.call(call)), (0, 0), "{name} is answered done");
+    line(name, core, second);
     (core, second)
 }
 
-/// The calls of a cycle one after the other, an entry and a leave, each on the record where it is due.
+/// The area with a train standing at the start of its route's last segment.
+fn at_the_last(area: &Area, number: u8) -> Area {
+    let mut record = area.record();
+    record.allocations.iter_mut().filter(|train| **train == number).for_each(|train| *train = 0);
+    let train = &mut record.trains[usize::from(number) - 1];
+    let route = record.tables.route(train.route);
+    (train.place, train.position, train.speed) = (route.count, 0, 0);
+    record.allocations[usize::from(route.listed()[usize::from(route.count) - 1]) - 1] = number;
+    Area::from_record(&record).expect("the record is sound")
+}
+
+/// The calls of a cycle one after the other, and a train that leaves and enters anew, each on the record where it is answered done.
 fn calls(name: &str, description: &Description, trains: u16) {
     let file = description.file();
     let mut area = load(&file).expect("the area is accepted");
@@ -75,8 +88,11 @@ fn calls(name: &str, description: &Description, trains: u16) {
         times.push(one_call(&format!("{step}, {name}"), &file, &area, call));
         area.call(call);
     }
-    times.push(one_call(&format!("enter, {name}"), &file, &area, &Call::Enter { train: 1, route: 1, speed: 0 }));
-    times.push(one_call(&format!("leave, {name}"), &file, &area, &Call::Leave { train: 1 }));
+    let mut area = at_the_last(&area, trains as u8);
+    for (step, call) in [("leave", Call::Leave { train: trains }), ("enter", Call::Enter { train: trains, route: trains, speed: 0 })] {
+        times.push(one_call(&format!("{step}, {name}"), &file, &area, &call));
+        area.call(&call);
+    }
     let sum = |part: fn(&(f64, f64)) -> f64| times.iter().map(part).sum::<f64>() / times.len() as f64;
     line(&format!("mean call, {name}"), sum(|x| x.0), sum(|x| x.1));
 }
@@ -103,7 +119,9 @@ fn replay(name: &str, description: &Description, trains: u16) {
 }
 
 fn main() {
-    println!("the core and the second program on the same inputs; buffers are not cleared between runs");
+    println!("the core and the second program on the same inputs; each of the single calls is answered done");
+    println!("in the replays the buffers are not cleared between runs;");
+    println!("for a single call the state is copied anew before each run, with and without the call");
     println!("{:40} {:>9} {:>9} {:>8}", "microseconds", "core", "second", "ratio");
     loads("Area A", &area_a().file());
     loads("full area", &full_area().file());

@@ -4,7 +4,8 @@
 //!
 //! A line has a call with its numbers, or nothing; `#` starts a comment. The calls are `enter TRAIN ROUTE SPEED`, `leave TRAIN`,
 //! `speed WISH` for all 24 trains, `speed WISH WISH ..` with just these wishes, `request`, `grant`, `position`, and `cycle WISH`
-//! for the four steps of a cycle. Where a line cannot be read, nothing is written.
+//! for the four steps of a cycle. Where a line cannot be read, nothing is written. A line ends with a line feed, a carriage return,
+//! or both.
 use reference::script::{words_of, WORDS};
 use reference::Call;
 use std::io::{Read, Write};
@@ -81,6 +82,8 @@ fn calls(line: &str) -> Result<Vec<Record>, String> {
 }
 
 fn script(text: &str) -> Result<Vec<Record>, String> {
+    // a carriage return ends a line too, by itself or with a line feed after it
+    let text = text.replace("\r\n", "\n").replace('\r', "\n");
     let mut records = vec![];
     for (i, line) in text.lines().enumerate() {
         records.extend(calls(line).map_err(|wrong| format!("line {}: {wrong}", i + 1))?);

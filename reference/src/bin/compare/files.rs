@@ -1,0 +1,193 @@
+//! Files: load's answer, the views of routes, and what a list and a report make of a refused file.
+use crate::{counted, fail, loaded, same, same_state};
+use reference::breaks::{from_rule, BREAKS, PLACES};
+use reference::file::{BLOCK_SIZE, FILE_SIZE};
+use reference::random::{self, Random};
+use reference::script::script_of;
+use reference::unit::{self, STATE_SIZE};
+use reference::*;
+
+const FILES: u32 = 200_000;
+const EACH_RULE: u64 = 500;
+
+/// The extremes that an accepted area can have.
+const EXTREMES: [(&str, fn(&Description) -> bool); 14] = [
+    ("1 segment", |a| a.segments.len() == 1),
+    ("62 segments", |a| a.segments.len() == 62),
+    ("1 route", |a| a.routes.len() == 1),
+    ("30 routes", |a| a.routes.len() == 30),
+    ("a route of 31", |a| a.routes.iter().any(|route| route.len() == 31)),
+    ("gmax 1", |a| a.gmax == 1),
+    ("gmax 1000", |a| a.gmax == 1000),
+    ("b 1", |a| a.b == 1),
+    ("b = gmax", |a| a.b == a.gmax),
+    ("d = S(gmax)", |a| u64::from(a.d) == s(a.b.into(), a.gmax.into())),
+    ("the least length", |a| a.segments.iter().any(|segment| segment.length == a.d + u32::from(a.gmax) + 1)),
+    ("the greatest length", |a| a.segments.iter().any(|segment| segment.length == 1_000_000)),
+    ("the drop rule met with equality", |a| {
+        a.segments.iter().any(|segment| segment.next_links().any(|next| a.segment(next).limit + a.b == segment.limit))
+    }),
+    ("a merge and a diverge", |a| {
+        a.segments.iter().any(|segment| segment.previous[1] != 0) && a.segments.iter().any(|segment| segment.next[1] != 0)
+    }),
+];
+
+/// What the files came to, for the counts.
+struct Seen {
+    seed: u64,
+    files: u32,
+    rules: [u32; 11],
+    views: u32,
+    extremes: [u32; EXTREMES.len()],
+    /// by break: first, middle and last place
+    breaks: Vec<[u32; 3]>,
+    random: u32,
+    random_beyond_3: u32,
+}
+
+pub fn compare(seed: u64) {
+    let mut random = Random::new(seed);
+    let mut seen = Seen {
+        seed,
+        files: 0,
+        rules: [0; 11],
+        views: 0,
+        extremes: [0; EXTREMES.len()],
+        breaks: vec![[0; 3]; BREAKS.len()],
+        random: 0,
+        random_beyond_3: 0,
+    };
+    while seen.files < FILES {
+        let lively = random.one_in(4);
+        let area = random::area(&mut random, lively);
+        let whole = area.file();
+        loaded(seed, &whole);
+        seen.file(&mut random, &whole, "an area that meets the rules");
+        for ((_, has), count) in EXTREMES.iter().zip(&mut seen.extremes) {
+            *count += u32::from(has(&area));
+        }
+        seen.broken_alone(&mut random, &area, &whole);
+        seen.broken_together(&mut random, &area, &whole);
+        seen.random_bytes(&mut random, &whole);
+    }
+    seen.print();
+}
+
+impl Seen {
+    /// One file: the number of its answer.
+    fn file(&mut self, random: &mut Random, file: &[u8], what: &str) -> u8 {
+        let second = load(file).err().unwrap_or(Refusal { number: 0, place: 0 });
+        same(self.seed, what, unit::load(file), second);
+        // of an accepted file the view of every route, of a refused one some number's
+        let routes = if second.number == 0 { (0..=31).chain([255, 256, 257, 65_535]).collect() } else { vec![random.within(0, 31) as u16] };
+        for route in routes {
+            let view = route_view(file, route);
+            same(self.seed, "the view", unit::view(file, route), (route_view_start(file, route) as u32, view.len() as u32));
+            self.views += u32::from(!view.is_empty());
+        }
+        if second.number != 0 {
+            self.refused(file, second);
+        }
+        self.files += 1;
+        self.rules[usize::from(second.number)] += 1;
+        second.number
+    }
+
+    /// A refused file: no call is run, the report is refused, and the buffers are as they were.
+    fn refused(&self, file: &[u8], refusal: Refusal) {
+        let script = script_of(&[Call::Request, Call::Grant]);
+        let (mut answers, mut state) = ([99; 4], [99; STATE_SIZE]);
+        let run = unit::run_file(file, &script, &mut answers, &mut state);
+        same(self.seed, "a list from a refused file", run, (refusal, 0));
+        let report = unit::report_file(file, &script, &mut answers);
+        same(self.seed, "the report on a refused file", report, (11, 0, 0));
+        same(self.seed, "the answers after a refused file", answers, [99; 4]);
+        same_state(self.seed, "the state after a refused file", &state, &[99; STATE_SIZE]);
+    }
+
+    /// Each condition of rules 1 to 10 broken alone. The answer is its rule, not only the same from both.
+    fn broken_alone(&mut self, random: &mut Random, area: &Description, whole: &[u8]) {
+        for (k, one) in BREAKS.iter().enumerate() {
+            for (at, &place) in PLACES.iter().enumerate() {
+                let mut file = whole.to_vec();
+                if !(one.change)(random, area, &mut file, place) {
+                    continue;
+                }
+                if one.rule > 2 {
+                    put_checks(&mut file);
+                }
+                let answer = self.file(random, &file, one.name);
+                if answer != one.rule {
+                    fail(format_args!("rule {}, {}: the answer is {answer} (seed {})", one.rule, one.name, self.seed));
+                }
+                self.breaks[k][at] += 1;
+            }
+        }
+    }
+
+    fn broken_together(&mut self, random: &mut Random, area: &Description, whole: &[u8]) {
+        for _ in 0..10 {
+            let mut file = whole.to_vec();
+            for _ in 0..random.within(2, 5) {
+                let one = random.of(from_rule(3));
+                let place = *random.of(&PLACES);
+                (one.change)(random, area, &mut file, place);
+            }
+            put_checks(&mut file);
+            self.file(random, &file, "several rules broken");
+        }
+    }
+
+    /// Random bytes with right checks: some in an area's file, and whole files of them.
+    fn random_bytes(&mut self, random: &mut Random, whole: &[u8]) {
+        for _ in 0..3 {
+            let mut file = whole.to_vec();
+            for _ in 0..random.within(1, 4) {
+                let at = random.within(0, FILE_SIZE as u64 - 1) as usize;
+                file[at] = random.draw() as u8;
+            }
+            put_checks(&mut file);
+            self.file(random, &file, "random bytes in an area's file");
+        }
+        for tails in [false, true] {
+            let mut file: Vec<u8> = (0..FILE_SIZE).map(|_| random.draw() as u8).collect();
+            if tails {
+                put_tails(random, &mut file, whole);
+            }
+            put_checks(&mut file);
+            let answer = self.file(random, &file, "a file of random bytes");
+            self.random += 1;
+            self.random_beyond_3 += u32::from(answer > 3);
+        }
+    }
+
+    fn print(&self) {
+        println!("files: {} compared, and views of routes, {} of them not empty", self.files, self.views);
+        for (rule, &count) in self.rules.iter().enumerate() {
+            counted(format_args!("files: answer {rule}"), count, EACH_RULE);
+        }
+        for ((name, _), count) in EXTREMES.iter().zip(self.extremes) {
+            counted(format_args!("files: accepted, {name}"), count, 1);
+        }
+        for (one, hits) in BREAKS.iter().zip(&self.breaks) {
+            println!("files: rule {}, {}: first {}, middle {}, last {}", one.rule, one.name, hits[0], hits[1], hits[2]);
+            if hits.contains(&0) {
+                fail("it was never broken at one of these places");
+            }
+        }
+        counted("files: of random bytes", self.random, 1);
+        counted("files: of random bytes, answered beyond rule 3", self.random_beyond_3, 1);
+    }
+}
+
+/// The area's header and tails, without which rule 3 ends it all, and some of its other blocks: one at the least stays random.
+fn put_tails(random: &mut Random, file: &mut [u8], whole: &[u8]) {
+    let stays = random.within(1, 4) as usize;
+    for number in 0..5 {
+        let start = BLOCK_SIZE * number;
+        let tail = start + if number < 3 { 496 } else { 480 };
+        let right = number == 0 || (number != stays && random.one_in(2));
+        let part = if right { start } else { tail }..start + BLOCK_SIZE;
+        file[part.clone()].copy_from_slice(&whole[part]);
+    }
+}

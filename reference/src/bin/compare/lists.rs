@@ -1,0 +1,205 @@
+//! Lists of calls: each answer and the state after each call, from the core's own record and from the file with the whole list;
+//! demand 3 on what the core hands back.
+use crate::{counted, fail, loaded, same, same_state};
+use reference::random::{self, Owned, Random};
+use reference::script::{script_of, words_of};
+use reference::unit::{self, STATE_SIZE};
+use reference::*;
+
+const CALLS: u64 = 2_000_000;
+
+/// The answers that a list can have: 1 to 10 are load's, and 11 never comes.
+const ANSWERS: [usize; 11] = [0, 12, 13, 14, 15, 16, 17, 18, 19, 20, 21];
+
+/// Speeds that are wished or entered with, against the limit of the train's segment.
+const SPEEDS: [(&str, fn(u16, u16) -> bool); 4] = [
+    ("0", |speed, _| speed == 0),
+    ("the segment's limit", |speed, limit| speed == limit),
+    ("one above the segment's limit", |speed, limit| speed == limit + 1),
+    ("65,535", |speed, _| speed == 65_535),
+];
+
+/// What the lists came to, for the counts.
+#[derive(Default)]
+struct Seen {
+    lists: u64,
+    calls: u64,
+    answers: [u64; 22],
+    granted: u64,
+    without: u64,
+    contested: u64,
+    moved_on: u64,
+    moved_on_to_0: u64,
+    left: u64,
+    cut: u64,
+    wishes: [u64; SPEEDS.len()],
+    entries: [u64; SPEEDS.len()],
+}
+
+pub fn compare(seed: u64) {
+    let mut random = Random::new(seed);
+    let mut seen = Seen::default();
+    while seen.calls < CALLS {
+        let lively = !random.one_in(4);
+        let area = random::area(&mut random, lively);
+        let mut list = List::new(seed, seen.lists + 1, &area);
+        for _ in 0..random.within(0, 700) {
+            let call = random::call(&mut random, &area, list.record.due);
+            let before = list.record;
+            let number = list.call(call);
+            seen.note(&list.calls[list.calls.len() - 1], number, &before, &list.record);
+        }
+        list.whole();
+        if random.one_in(8) && !list.calls.is_empty() {
+            list.with_less_room(&mut random);
+            seen.cut += 1;
+        }
+        seen.lists += 1;
+    }
+    seen.print();
+}
+
+impl Seen {
+    fn note(&mut self, call: &Owned, number: u8, before: &Record, after: &Record) {
+        self.calls += 1;
+        self.answers[usize::from(number)] += 1;
+        match (call, number) {
+            (Owned::Enter(_, route, speed), 0 | 19) => {
+                let first = before.tables.route(*route as u8).numbers[0];
+                note_speed(&mut self.entries, *speed, before.tables.segment(first).limit);
+            }
+            (Owned::Leave(_), 0) => self.left += 1,
+            (Owned::Speed(wishes), 0) => {
+                for (train, &wish) in before.trains.iter().zip(wishes).filter(|(train, _)| train.is_on()) {
+                    let own = before.tables.route(train.route).numbers[usize::from(train.place) - 1];
+                    note_speed(&mut self.wishes, wish, before.tables.segment(own).limit);
+                }
+            }
+            (Owned::Grant, 0) => self.note_grant(before, after),
+            (Owned::Position, 0) => {
+                for (_, train) in before.trains.iter().zip(&after.trains).filter(|(was, is)| was.place != is.place) {
+                    self.moved_on += 1;
+                    self.moved_on_to_0 += u64::from(train.position == 0);
+                }
+            }
+            _ => {}
+        }
+    }
+
+    fn note_grant(&mut self, before: &Record, after: &Record) {
+        let mut asking = [0; 63];
+        for (number, train) in (1..).zip(&before.trains).filter(|(_, train)| train.asks) {
+            let next = before.tables.route(train.route).numbers[usize::from(train.place)];
+            asking[usize::from(next)] += 1;
+            self.without += u64::from(after.allocations[usize::from(next) - 1] != number);
+        }
+        self.contested += asking.iter().filter(|&&trains| trains > 1).count() as u64;
+        self.granted += before.allocations.iter().zip(&after.allocations).filter(|(was, is)| was != is).count() as u64;
+    }
+
+    fn print(&self) {
+        println!("lists: {} of {} calls; answer and state after each call compared, demand 3 checked", self.lists, self.calls);
+        for number in ANSWERS {
+            counted(format_args!("lists: answer {number}"), self.answers[number], 1);
+        }
+        counted("lists: segments granted", self.granted, 1);
+        counted("lists: trains that asked and went without", self.without, 1);
+        counted("lists: segments that two or more trains asked for in one step", self.contested, 1);
+        counted("lists: trains moved on", self.moved_on, 1);
+        counted("lists: trains moved on to position 0", self.moved_on_to_0, 1);
+        counted("lists: trains that left", self.left, 1);
+        counted("lists: cut by a buffer with less room", self.cut, 1);
+        for ((name, _), (wishes, entries)) in SPEEDS.iter().zip(self.wishes.into_iter().zip(self.entries)) {
+            counted(format_args!("lists: wishes at {name}"), wishes, 1);
+            counted(format_args!("lists: entries at {name}"), entries, 1);
+        }
+    }
+}
+
+fn note_speed(counts: &mut [u64; SPEEDS.len()], speed: u16, limit: u16) {
+    for ((_, is), count) in SPEEDS.iter().zip(counts) {
+        *count += u64::from(is(speed, limit));
+    }
+}
+
+/// One list from one accepted file, run by both programs call by call.
+struct List {
+    seed: u64,
+    /// which of the lists, from 1
+    which: u64,
+    file: Vec<u8>,
+    area: Area,
+    /// the second program's
+    record: Record,
+    demand: Demand3,
+    calls: Vec<Owned>,
+    numbers: Vec<u8>,
+    /// the core's, after load and after each call
+    states: Vec<[u8; STATE_SIZE]>,
+}
+
+impl List {
+    fn new(seed: u64, which: u64, area: &Description) -> List {
+        let file = area.file();
+        let area = loaded(seed, &file);
+        let record = area.record();
+        let mut state = [99; STATE_SIZE];
+        let (refusal, ran) = unit::run_file(&file, &[], &mut [], &mut state);
+        same(seed, "a list without calls", (refusal.number, refusal.place, ran), (0, 0, 0));
+        same_state(seed, "the state after load", &state, &unit::state_of(&record));
+        let demand = Demand3::new(area.tables());
+        List { seed, which, file, area, record, demand, calls: vec![], numbers: vec![], states: vec![state] }
+    }
+
+    /// The next call: the core has it on the record that it handed back last.
+    fn call(&mut self, owned: Owned) -> u8 {
+        let (list, call) = (self.which, self.calls.len() + 1);
+        let number = self.area.call(&owned.call());
+        self.record = self.area.record();
+        let (mut answer, mut state) = ([99], self.states[self.calls.len()]);
+        let ran = unit::run_record(&self.file, &words_of(&owned.call()), &mut answer, &mut state);
+        same(self.seed, format_args!("list {list}, call {call}, its answer"), (ran, answer[0]), (1, number));
+        same_state(self.seed, format_args!("list {list}, call {call}, the state after it"), &state, &unit::state_of(&self.record));
+        let core = unit::record_of(self.area.tables(), &state);
+        if let Err(broken) = self.demand.tell(&owned.call(), answer[0], &core) {
+            fail(format_args!("list {list}, call {call}: demand 3 is broken: {broken} (seed {})", self.seed));
+        }
+        self.calls.push(owned);
+        self.numbers.push(number);
+        self.states.push(state);
+        number
+    }
+
+    fn script(&self) -> Vec<u16> {
+        script_of(&self.calls.iter().map(Owned::call).collect::<Vec<_>>())
+    }
+
+    /// The list in one from the file, with more room than it needs, and the report after it.
+    fn whole(&self) {
+        let script = self.script();
+        let mut answers = vec![99; self.calls.len() + 3];
+        let mut state = [99; STATE_SIZE + 5];
+        let (refusal, ran) = unit::run_file(&self.file, &script, &mut answers, &mut state);
+        same(self.seed, "load before a list", refusal, Refusal { number: 0, place: 0 });
+        same(self.seed, "the number of calls", ran, self.calls.len());
+        same(self.seed, "the answers of a list", &answers[..ran], &self.numbers[..]);
+        same(self.seed, "what the buffer has beyond the answers", &answers[ran..], &[99; 3][..]);
+        same_state(self.seed, "the state after a list", &state[..STATE_SIZE], &unit::state_of(&self.record));
+        same(self.seed, "what the buffer has beyond the state", &state[STATE_SIZE..], &[99; 5][..]);
+        let (number, allocated, free) = self.area.report();
+        let report = unit::report_file(&self.file, &script, &mut answers);
+        same(self.seed, "the report after a list", report, (number, allocated as u8, free as u8));
+    }
+
+    /// A buffer with less room for the answers ends the list earlier; one with less room for the state gets a part of it.
+    fn with_less_room(&self, random: &mut Random) {
+        let room = random.within(0, self.calls.len() as u64 - 1) as usize;
+        let size = random.within(0, STATE_SIZE as u64) as usize;
+        let mut answers = vec![99; room];
+        let mut state = vec![99; size];
+        let (_, ran) = unit::run_file(&self.file, &self.script(), &mut answers, &mut state);
+        same(self.seed, "the number of calls where there is less room", ran, room);
+        same(self.seed, "the answers where there is less room", &answers[..], &self.numbers[..room]);
+        same_state(self.seed, "the state where there is less room", &state, &self.states[room][..size]);
+    }
+}

@@ -1,0 +1,95 @@
+//! The core against the second program: braking, Area A's listing, files, lists of calls, records. Seeded and repeatable; it
+//! prints counts, and ends with status 1 at the first difference and at a count that is too low.
+//!
+//!     compare             the whole comparison
+//!     compare SEED        the same with another seed
+mod files;
+mod lists;
+mod records;
+
+use reference::script::script_of;
+use reference::unit::{self, STATE_SIZE};
+use reference::*;
+use std::fmt::{Debug, Display};
+
+fn fail(what: impl Display) -> ! {
+    println!("compare: {what}");
+    std::process::exit(1);
+}
+
+/// A difference ends the comparison and says how to see it again.
+fn differ(seed: u64, what: impl Display, core: impl Debug, second: impl Debug) -> ! {
+    fail(format_args!("{what}: the core says {core:?}, the second program {second:?} (seed {seed})"));
+}
+
+fn same<T: PartialEq + Debug>(seed: u64, what: impl Display, core: T, second: T) {
+    if core != second {
+        differ(seed, what, core, second);
+    }
+}
+
+/// Two states, or as much of them as there is room for. The first byte that differs is named (docs/FORMATS.md).
+fn same_state(seed: u64, what: impl Display, core: &[u8], second: &[u8]) {
+    same(seed, format_args!("{what}, its size"), core.len(), second.len());
+    if let Some(at) = (0..core.len()).find(|&at| core[at] != second[at]) {
+        differ(seed, format_args!("{what}, byte {at}"), core[at], second[at]);
+    }
+}
+
+/// Prints a count; one below the least ends the comparison.
+fn counted(what: impl Display, count: impl Into<u64>, least: u64) {
+    let count = count.into();
+    println!("{what}: {count}");
+    if count < least {
+        fail(format_args!("{what}: there must be {least} at the least"));
+    }
+}
+
+/// An area that is made to meet the rules, loaded.
+fn loaded(seed: u64, file: &[u8]) -> Area {
+    load(file).unwrap_or_else(|refusal| fail(format_args!("an area made to meet the rules is refused: {refusal:?} (seed {seed})")))
+}
+
+/// Document 01's listing, from both programs.
+fn listing(seed: u64) {
+    let file = area_a().file();
+    let wishes = [300; 24];
+    let mut calls = vec![Call::Enter { train: 1, route: 1, speed: 250 }, Call::Enter { train: 2, route: 2, speed: 200 }];
+    let mut area = loaded(seed, &file);
+    calls.iter().for_each(|call| same(seed, "an entry", 0, area.call(call)));
+    for cycle in 1..=6 {
+        for call in [Call::Speed { wishes: &wishes }, Call::Request, Call::Grant, Call::Position] {
+            same(seed, "a step", 0, area.call(&call));
+            calls.push(call);
+        }
+        let (mut answers, mut state) = ([99; 26], [99; STATE_SIZE]);
+        unit::run_file(&file, &script_of(&calls), &mut answers, &mut state);
+        same_state(seed, "the state after a cycle of Area A", &state, &unit::state_of(&area.record()));
+        let core = unit::record_of(area.tables(), &state);
+        for (number, train) in (1..).zip(&core.trains[..2]) {
+            let segment = core.tables.route(train.route).listed()[usize::from(train.place) - 1];
+            println!("listing: {cycle} {number} {segment} {} {}", train.position, train.speed);
+        }
+    }
+}
+
+/// S, and B: what is still run after this cycle is S of the speed that a cycle of full braking leaves.
+fn braking(seed: u64) {
+    for b in 1..=1000u16 {
+        for v in 0..=1000u16 {
+            same(seed, "S", u64::from(unit::braking_distance(b, v)), s(b.into(), v.into()));
+            same(seed, "B", u64::from(unit::braking_distance(b, v.saturating_sub(b))), b_rest(b.into(), v.into()));
+        }
+    }
+    println!("braking: S and B compared for every speed to 1000 and every rate to 1000");
+}
+
+fn main() {
+    let seed = std::env::args().nth(1).map_or(1, |word| word.parse().expect("compare: the seed is a number"));
+    braking(seed);
+    listing(seed);
+    files::compare(seed);
+    lists::compare(seed);
+    records::compare(seed);
+    println!("compare: no difference");
+}
