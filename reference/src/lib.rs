@@ -1,7 +1,8 @@
 //! One radio block area: segments, routes, trains.
 //!
-//! A second program, written from document 01 and, in `demand3`, from the words of demand 3 that it names, and from nothing else; to be read beside it. Sentences of the paper stand in quotation marks. Where the paper leaves
-//! something open, a comment begins with `reading:`.
+//! A second program, written from document 01 and, in `demand3`, from the words of demand 3 that it names, and from nothing else; to be
+//! read beside it. Sentences of the paper stand in quotation marks. Where the paper leaves something open, a comment begins with
+//! `reading:`.
 
 // The modules in the paper's order.
 

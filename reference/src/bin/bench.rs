@@ -16,17 +16,23 @@ fn round<R>(turns: u32, run: &mut impl FnMut() -> R) -> f64 {
     start.elapsed().as_secs_f64() * 1e6 / f64::from(turns)
 }
 
-/// The least of nine rounds.
-fn time<R>(turns: u32, mut run: impl FnMut() -> R) -> f64 {
-    (0..9).map(|_| round(turns, &mut run)).fold(f64::MAX, f64::min)
+/// The core and the second program, the least of nine rounds each. Rounds of both take turns, since a machine's speed changes from
+/// second to second.
+fn time<R, S>(turns: u32, mut core: impl FnMut() -> R, mut second: impl FnMut() -> S) -> (f64, f64) {
+    let rounds: Vec<(f64, f64)> = (0..9).map(|_| (round(turns, &mut core), round(turns, &mut second))).collect();
+    let least = |part: fn(&(f64, f64)) -> f64| rounds.iter().map(part).fold(f64::MAX, f64::min);
+    (least(|x| x.0), least(|x| x.1))
 }
 
-/// What `with` takes beyond `without`: the middle of the differences of rounds that follow each other, since a machine's speed
-/// changes from second to second.
-fn beyond<R, S>(mut with: impl FnMut() -> R, mut without: impl FnMut() -> S) -> f64 {
-    let mut differences: Vec<f64> = (0..201).map(|_| round(100, &mut with) - round(100, &mut without)).collect();
-    differences.sort_by(f64::total_cmp);
-    differences[100]
+/// What `with` takes beyond `without`, of rounds that follow each other.
+fn beyond<R>(with: &mut impl FnMut() -> R, without: &mut impl FnMut() -> R) -> f64 {
+    round(100, with) - round(100, without)
+}
+
+/// The middle one of some numbers.
+fn middle(mut numbers: Vec<f64>) -> f64 {
+    numbers.sort_by(f64::total_cmp);
+    numbers[numbers.len() / 2]
 }
 
 fn line(what: &str, core: f64, second: f64) {
@@ -34,8 +40,7 @@ fn line(what: &str, core: f64, second: f64) {
 }
 
 fn loads(name: &str, file: &[u8]) {
-    let core = time(2000, || unit::load(black_box(file)));
-    let second = time(2000, || load(black_box(file)).is_ok());
+    let (core, second) = time(2000, || unit::load(black_box(file)), || load(black_box(file)).is_ok());
     line(&format!("load, {name}"), core, second);
 }
 
@@ -47,12 +52,17 @@ fn one_call(name: &str, file: &[u8], area: &Area, call: &Call) -> (f64, f64) {
         let (mut answer, mut state) = ([0], before);
         (unit::run_record(file, script, &mut answer, &mut state), state)
     };
-    let core = beyond(|| core_run(&script), || core_run(&[]));
     let second_run = |call: Option<&Call>| {
         let mut area = black_box(*area);
         (call.map(|call| area.call(call)), area)
     };
-    let second = beyond(|| second_run(Some(call)), || second_run(None));
+    let (cores, seconds) = (0..201)
+        .map(|_| {
+            let core = beyond(&mut || core_run(&script), &mut || core_run(&[]));
+            (core, beyond(&mut || second_run(Some(call)), &mut || second_run(None)))
+        })
+        .unzip();
+    let (core, second) = (middle(cores), middle(seconds));
     let (mut after, mut answer) = (*area, [99]);
     unit::run_record(file, &script, &mut answer, &mut { before });
     assert_eq!((answer[0], after.call(call)), (0, 0), "{name} is answered done");
@@ -107,14 +117,14 @@ fn replay(name: &str, description: &Description, trains: u16) {
     let script = script_of(&calls);
     let mut answers = vec![0; calls.len()];
     let mut state = [0; STATE_SIZE];
-    let core = time(20, || unit::run_file(&file, &script, &mut answers, &mut state));
-    let second = time(20, || {
+    let second_run = || {
         let mut area = load(&file).expect("the area is accepted");
         for call in &calls {
             black_box(area.call(call));
         }
         area
-    });
+    };
+    let (core, second) = time(20, || unit::run_file(&file, &script, &mut answers, &mut state), second_run);
     line(&format!("replay of {} calls, {name}, a call", calls.len()), core / calls.len() as f64, second / calls.len() as f64);
 }
 

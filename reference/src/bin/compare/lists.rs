@@ -11,8 +11,11 @@ const CALLS: u64 = 2_000_000;
 /// The answers that a list can have: 1 to 10 are load's, and 11 never comes.
 const ANSWERS: [usize; 11] = [0, 12, 13, 14, 15, 16, 17, 18, 19, 20, 21];
 
+/// Whether a speed is the one meant, by the limit of the train's segment.
+type IsAt = fn(u16, u16) -> bool;
+
 /// Speeds that are wished or entered with, against the limit of the train's segment.
-const SPEEDS: [(&str, fn(u16, u16) -> bool); 4] = [
+const SPEEDS: [(&str, IsAt); 4] = [
     ("0", |speed, _| speed == 0),
     ("the segment's limit", |speed, limit| speed == limit),
     ("one above the segment's limit", |speed, limit| speed == limit + 1),
