@@ -118,10 +118,10 @@ pub extern "C" fn rbu_run_record(
     ensures { λ _. ⌜ now (state .exit) ≡ stateInto (ranOf (recordOf (now (file .entry)) (now (state .entry))) (now (script .entry)) (length (now (answers .entry))) .area) (now (state .entry)) ⌝ }
 {
     let before = state::record_of(file, state);
-    let ran = runs::run(before, script, answers);
-    let after = ran.area;
+    let run = runs::run(before, script, answers);
+    let after = run.area;
     state::write_state(after, state);
-    ran.calls
+    run.calls
 }
 
 #[no_mangle]
