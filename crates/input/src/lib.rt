@@ -1,6 +1,6 @@
 // What the bench tool's input holds: an area file, and after it a script of calls, as bytes and as words.
 ghost use mathlib.Core.Path.{_≡_};
-ghost use Prim.Native.Nat.{_+_, _/_};
+ghost use Prim.Native.Nat.{_/_};
 ghost use lib.ListN.{length, take, drop};
 ghost use Rattle.lists.specs.Words.{tabulate, firstFailing};
 ghost use Rattle.file.specs.Blocks.{fileSize};
@@ -29,23 +29,13 @@ pub fn script_in(input: &[u8]) -> &[u8]
     &input[file::FILE_SIZE..n]
 }
 
-// Word i + 1 of a script.
-fn word_in(script: &[u8], i: u32) -> u16
-    ensures { λ r. ⌜ r ≡ wordIn (now (script .entry)) (i + 1) ⌝ }
-{
-    let at = 2 * (i as usize);
-    let low = file::byte(script, at);
-    let high = file::byte(script, at + 1);
-    (low as u16) + 256 * (high as u16)
-}
-
 // The words of a script, and zeros after them.
 pub fn words_of(script: &[u8]) -> [u16; MOST_WORDS]
     ensures { λ r. ⌜ r ≡ tabulate 32000 (wordIn (now (script .entry))) ⌝ }
 {
     let mut words = [0u16; MOST_WORDS];
     for i in 0..MOST_WORDS {
-        words[i] = word_in(script, i as u32);
+        words[i] = file::half_at(script, (2 * i) as u16);
     }
     words
 }

@@ -1,4 +1,5 @@
-use Prim.Native.Nat.{_-_}
+use Prim.Native.Nat.{_+_, _-_}
+use mathlib.Core.Path.{_≡_}
 use native.Mathlib.Omega.{arith}
 use borrow.Author.Needs.{needs}
 use Rattle.lists.proofs.Loops.{Tabled, table-begin, table-more, table-over}
@@ -15,11 +16,14 @@ abbrev μ-loop : tie.MeasureT-loop
 loop-holds : tie.Need-loop-holds Inv-loop μ-loop
 loop-holds c = table-begin
 
-cast-word-in : tie.Need-cast-word-in Inv-loop μ-loop
-cast-word-in c = omega arith
+mul-half-at : tie.Need-mul-half-at Inv-loop μ-loop
+mul-half-at c = omega arith
 
-word-in-requires : tie.Need-word-in-requires Inv-loop μ-loop
-word-in-requires c κs = search needs
+cast-half-at : tie.Need-cast-half-at Inv-loop μ-loop
+cast-half-at c = omega arith
+
+half-at-requires : tie.Need-half-at-requires Inv-loop μ-loop
+half-at-requires c κs = search needs
 
 mul-words : tie.Need-mul-words Inv-loop μ-loop
 mul-words c = omega arith
@@ -34,7 +38,11 @@ loop-less : tie.Need-loop-less Inv-loop μ-loop
 loop-less c = omega arith
 
 loop-again : tie.Need-loop-again Inv-loop μ-loop
-loop-again c = table-more (c .before .before .loop .inv) (c .before .loop-test .taken) (c .word-in .ensures)
+unfolding wordIn
+loop-again c =
+    let l = c .before .before .loop in
+    let e : l .i + 1 - 1 ≡ l .i = omega arith in
+    table-more (l .inv) (c .before .loop-test .taken) (rw e (c .half-at .ensures))
 
 returns : tie.Need-returns Inv-loop μ-loop
 returns c = table-over (c .before .loop .inv) (c .loop-test .left)
@@ -46,8 +54,9 @@ words-of-spec =
     Inv-loop
     μ-loop
     loop-holds
-    cast-word-in
-    word-in-requires
+    mul-half-at
+    cast-half-at
+    half-at-requires
     mul-words
     array-write-words
     add-i
