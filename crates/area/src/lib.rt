@@ -55,7 +55,7 @@ fn enter_route(area: Area, t: u8, route: u16, speed: u16) -> Outcome
         return refused(area, 16);
     }
     let r = route as u8;
-    let first = tables::segment_at(&tables.ways, r, 1);
+    let first = tables::segment_at(&tables.routebytes, r, 1);
     if lists::entry_u8(&tables.flags, first as usize) % 2 != 1 {
         return refused(area, 17);
     }
@@ -133,8 +133,8 @@ impl Area {
             return refused(self, 15);
         }
         let tables = self.tables;
-        let own = trains::own_of(&tables.ways, x);
-        let last = tables::count_of(&tables.ways, x.route);
+        let own = trains::own_of(&tables.routebytes, x);
+        let last = tables::count_of(&tables.routebytes, x.route);
         let flags = lists::entry_u8(&tables.flags, own as usize);
         if !((x.place == last) & (flags / 2 == 1)) {
             return refused(self, 20);

@@ -2,7 +2,7 @@
 use Prim.Native.Nat.{ℕ, _+_, _-_, _*_, _/_, _%_}
 use mathlib.Core.List.{List}
 use Rattle.lists.specs.Words.{tabulate}
-use Rattle.file.specs.Bytes.{byteAt, half, word}
+use Rattle.file.specs.Bytes.{byteAt, twoAt, fourAt}
 use Rattle.file.specs.Blocks.{block}
 use Rattle.tables.specs.declared.Tables.{Tables}
 
@@ -15,10 +15,10 @@ segmentStart s = 16 * ((s - 1) % 31)
 
 -- a record's length is 4 bytes at 0, its limit 2 at 4, its next links a byte each at 6, its previous links at 8, its flags at 10
 unfoldable pub lengthIn : List ℕ → ℕ → ℕ
-lengthIn file s = word (segmentBlock file s) (segmentStart s)
+lengthIn file s = fourAt (segmentBlock file s) (segmentStart s)
 
 unfoldable pub limitIn : List ℕ → ℕ → ℕ
-limitIn file s = half (segmentBlock file s) (segmentStart s + 4)
+limitIn file s = twoAt (segmentBlock file s) (segmentStart s + 4)
 
 -- entry k of the links at a place of the records: two a record
 unfoldable pub linkIn : ℕ → List ℕ → ℕ → ℕ
@@ -28,8 +28,8 @@ unfoldable pub flagsIn : List ℕ → ℕ → ℕ
 flagsIn file s = byteAt (segmentBlock file s) (segmentStart s + 10)
 
 -- route records: 32 bytes, 15 a block, numbered from 1 through blocks 3 and 4. Byte k of all of them, counted from 1
-unfoldable pub wayIn : List ℕ → ℕ → ℕ
-wayIn file k = byteAt (block file (3 + (k - 1) / 480)) ((k - 1) % 480)
+unfoldable pub routeByteIn : List ℕ → ℕ → ℕ
+routeByteIn file k = byteAt (block file (3 + (k - 1) / 480)) ((k - 1) % 480)
 
 -- header: byte 1 segments N, byte 2 routes R, 4-5 `gmax`, 6-7 `b`, 8-11 `d`
 unfoldable pub decoded : List ℕ → Tables
@@ -37,13 +37,13 @@ decoded file =
     record {
       segments = byteAt (block file 0) 1;
       routes = byteAt (block file 0) 2;
-      gmax = half (block file 0) 4;
-      braking = half (block file 0) 6;
-      margin = word (block file 0) 8;
+      gmax = twoAt (block file 0) 4;
+      braking = twoAt (block file 0) 6;
+      margin = fourAt (block file 0) 8;
       lengths = tabulate 62 (lengthIn file);
       limits = tabulate 62 (limitIn file);
       next = tabulate 124 (linkIn 6 file);
       previous = tabulate 124 (linkIn 8 file);
       flags = tabulate 62 (flagsIn file);
-      ways = tabulate 960 (wayIn file);
+      routebytes = tabulate 960 (routeByteIn file);
     }

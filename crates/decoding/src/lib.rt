@@ -4,7 +4,7 @@ ghost use Prim.Native.Nat.{_<_, _+_};
 ghost use lib.ListN.{length};
 ghost use Rattle.lists.specs.Words.{tabulate};
 ghost use Rattle.file.specs.Blocks.{fileSize};
-ghost use Rattle.decoding.specs.Decoding.{segmentBlock, segmentStart, lengthIn, limitIn, linkIn, flagsIn, wayIn, decoded};
+ghost use Rattle.decoding.specs.Decoding.{segmentBlock, segmentStart, lengthIn, limitIn, linkIn, flagsIn, routeByteIn, decoded};
 use tables::Tables;
 
 // The block of segment record i + 1.
@@ -28,7 +28,7 @@ fn lengths_of(file: &[u8]) -> [u32; 62]
 {
     let mut lengths = [0u32; 62];
     for i in 0..62 {
-        lengths[i] = file::word_at(segment_block(file, i), segment_start(i));
+        lengths[i] = file::four_at(segment_block(file, i), segment_start(i));
     }
     lengths
 }
@@ -39,7 +39,7 @@ fn limits_of(file: &[u8]) -> [u16; 62]
 {
     let mut limits = [0u16; 62];
     for i in 0..62 {
-        limits[i] = file::half_at(segment_block(file, i), segment_start(i) + 4);
+        limits[i] = file::two_at(segment_block(file, i), segment_start(i) + 4);
     }
     limits
 }
@@ -68,15 +68,15 @@ fn flags_of(file: &[u8]) -> [u8; 62]
     flags
 }
 
-fn ways_of(file: &[u8]) -> [u8; 960]
+fn routebytes_of(file: &[u8]) -> [u8; 960]
     requires { ⌜ length (now file) ≡ fileSize ⌝ }
-    ensures { λ r. ⌜ r ≡ tabulate 960 (wayIn (now (file .entry))) ⌝ }
+    ensures { λ r. ⌜ r ≡ tabulate 960 (routeByteIn (now (file .entry))) ⌝ }
 {
-    let mut ways = [0u8; 960];
+    let mut routebytes = [0u8; 960];
     for i in 0..960 {
-        ways[i] = file::byte(file::block_of(file, 3 + i / 480), i % 480);
+        routebytes[i] = file::byte(file::block_of(file, 3 + i / 480), i % 480);
     }
-    ways
+    routebytes
 }
 
 pub fn decode(file: &[u8]) -> Tables
@@ -87,14 +87,14 @@ pub fn decode(file: &[u8]) -> Tables
     Tables {
         segments: file::byte(header, 1),
         routes: file::byte(header, 2),
-        gmax: file::half_at(header, 4),
-        braking: file::half_at(header, 6),
-        margin: file::word_at(header, 8),
+        gmax: file::two_at(header, 4),
+        braking: file::two_at(header, 6),
+        margin: file::four_at(header, 8),
         lengths: lengths_of(file),
         limits: limits_of(file),
         next: links_of(file, 6),
         previous: links_of(file, 8),
         flags: flags_of(file),
-        ways: ways_of(file),
+        routebytes: routebytes_of(file),
     }
 }

@@ -12,11 +12,11 @@ abbrev pub byteAt : List ℕ → ℕ → ℕ
 byteAt s i = getD s i 0
 
 -- a number of two bytes, and one of four
-abbrev pub half : List ℕ → ℕ → ℕ
-half s i = byteAt s i + 256 * byteAt s (i + 1)
+abbrev pub twoAt : List ℕ → ℕ → ℕ
+twoAt s i = byteAt s i + 256 * byteAt s (i + 1)
 
-abbrev pub word : List ℕ → ℕ → ℕ
-word s i = half s i + 65536 * half s (i + 2)
+abbrev pub fourAt : List ℕ → ℕ → ℕ
+fourAt s i = twoAt s i + 65536 * twoAt s (i + 2)
 
 -- the bytes from the first to the last place are zero, both included
 unfoldable pub zeros : List ℕ → ℕ → ℕ → Bool
@@ -25,5 +25,5 @@ zeros s first last = every (last + 1 - first) (λ (k : ℕ). eqb (byteAt s (firs
 -- a part of lent bytes: what it holds and where it lies, `count` bytes from `start` on
 pub record PartAt (whole part : RefT (List ℕ)) (start count : ℕ) : Type 0 where
   pub bytes : now part ≡ take count (drop start (now whole))
-  pub block : ptr part .0 ≡ ptr whole .0
+  pub object : ptr part .0 ≡ ptr whole .0
   pub offset : ptr part .1 ≡ start + ptr whole .1

@@ -2,7 +2,7 @@
 ghost use mathlib.Core.Path.{_≡_};
 ghost use Prim.Native.Nat.{_<_};
 ghost use lib.ListN.{length};
-ghost use Rattle.file.specs.Bytes.{byteAt, half, word, zeros};
+ghost use Rattle.file.specs.Bytes.{byteAt, twoAt, fourAt, zeros};
 ghost use Rattle.file.specs.Blocks.{blockSize, fileSize, block, kindOf, intact, filed, firstDamaged, firstMisfiled};
 
 pub const FILE_SIZE: usize = 2560;
@@ -15,8 +15,8 @@ pub fn byte(s: &[u8], at: usize) -> u8
 }
 
 // Places are 16-bit numbers, so that no sum of one can wrap.
-pub fn half_at(s: &[u8], at: u16) -> u16
-    ensures { λ r. ⌜ r ≡ half (now (s .entry)) at ⌝ }
+pub fn two_at(s: &[u8], at: u16) -> u16
+    ensures { λ r. ⌜ r ≡ twoAt (now (s .entry)) at ⌝ }
 {
     let i = at as usize;
     let low = byte(s, i);
@@ -24,8 +24,8 @@ pub fn half_at(s: &[u8], at: u16) -> u16
     (low as u16) + 256 * (high as u16)
 }
 
-pub fn word_at(s: &[u8], at: u16) -> u32
-    ensures { λ r. ⌜ r ≡ word (now (s .entry)) at ⌝ }
+pub fn four_at(s: &[u8], at: u16) -> u32
+    ensures { λ r. ⌜ r ≡ fourAt (now (s .entry)) at ⌝ }
 {
     let i = at as usize;
     let a = byte(s, i);

@@ -37,7 +37,7 @@ pub record AllZero (a : Area) : Type 0 where
   pub next : (k : ℕ) → at (a .tables .next) k ≡ 0
   pub previous : (k : ℕ) → at (a .tables .previous) k ≡ 0
   pub flags : (s : ℕ) → at (a .tables .flags) s ≡ 0
-  pub ways : (k : ℕ) → at (a .tables .ways) k ≡ 0
+  pub routebytes : (k : ℕ) → at (a .tables .routebytes) k ≡ 0
   pub allocations : (s : ℕ) → at (a .allocations) s ≡ 0
   pub trains : (t : ℕ) → trainAt (a .trains) t ≡ off
   pub due : a .due ≡ 0

@@ -46,7 +46,7 @@ pub fn moved_all(tables: Tables, trains: [Train; 24]) -> [Train; 24]
     let mut i: usize = 0;
     while i < 24 {
         let x = trains[i];
-        let own = trains::own_of(&tables.ways, x);
+        let own = trains::own_of(&tables.routebytes, x);
         let length = entry_u32(&tables.lengths, own as usize);
         new[i] = moved_train(length, x);
         i += 1;
@@ -55,10 +55,10 @@ pub fn moved_all(tables: Tables, trains: [Train; 24]) -> [Train; 24]
 }
 
 // The segment that a train frees: its own where it moves on, 0 where it does not.
-fn left_by<'a>(ways: &'a [u8; 960], lengths: &'a [u32; 62], x: Train) -> u8
-    ensures { λ r. ⌜ r ≡ (if movesIn (at (now (lengths .entry)) (ownIn (now (ways .entry)) x)) x then ownIn (now (ways .entry)) x else 0) ⌝ }
+fn left_by<'a>(routebytes: &'a [u8; 960], lengths: &'a [u32; 62], x: Train) -> u8
+    ensures { λ r. ⌜ r ≡ (if movesIn (at (now (lengths .entry)) (ownIn (now (routebytes .entry)) x)) x then ownIn (now (routebytes .entry)) x else 0) ⌝ }
 {
-    let own = trains::own_of(ways, x);
+    let own = trains::own_of(routebytes, x);
     let length = entry_u32(lengths, own as usize);
     if moves_on(length, x) { own } else { 0 }
 }
@@ -70,7 +70,7 @@ fn left_all(tables: Tables, trains: [Train; 24]) -> [u8; 24]
     let mut i: usize = 0;
     while i < 24 {
         let x = trains[i];
-        new[i] = left_by(&tables.ways, &tables.lengths, x);
+        new[i] = left_by(&tables.routebytes, &tables.lengths, x);
         i += 1;
     }
     new

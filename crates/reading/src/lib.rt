@@ -88,7 +88,7 @@ fn judge(file: &[u8], t: Tables) -> Reading
     if 0 < dropping {
         return refused(9, dropping as u16);
     }
-    let route = routes::first_bad_route(&t.next, &t.ways, t.segments, t.routes);
+    let route = routes::first_bad_route(&t.next, &t.routebytes, t.segments, t.routes);
     if 0 < route {
         return refused(10, route as u16);
     }

@@ -32,12 +32,12 @@ fn refuse(text: &[u8]) {
 }
 
 // Whether a record is of none of the six kinds; if so, says which.
-fn refuse_unknown(words: &[u16]) -> bool {
-    let record = input::first_unknown(words);
+fn refuse_unknown(items: &[u16]) -> bool {
+    let record = input::first_unknown(items);
     if record == 0 {
         return false;
     }
-    let kind = lists::entry_u16(words, 32 * (record - 1) + 1);
+    let kind = lists::entry_u16(items, 32 * (record - 1) + 1);
     refuse(b"call ");
     io::print_decimal(STDERR_FILENO, record as u64);
     io::write_all(STDERR_FILENO, b" of the script is of kind ");
@@ -46,9 +46,9 @@ fn refuse_unknown(words: &[u16]) -> bool {
     true
 }
 
-fn run(file: &[u8], words: &[u16]) {
+fn run(file: &[u8], items: &[u16]) {
     let mut answers = [0u8; MOST_CALLS];
-    let ran = runs::run_file(file, words, &mut answers);
+    let ran = runs::run_file(file, items, &mut answers);
     let answer = ran.answer;
     console::say_number(b"load ", answers::number_of(answer) as u64);
     console::say_number(b" ", answers::place_of(answer) as u64);
@@ -71,8 +71,8 @@ fn replay(input: &[u8]) {
         refuse(b"the script does not end with a whole record of 64 bytes\n");
         return;
     }
-    let words = input::words_of(script);
-    let calls = &words[0..n / 2];
+    let items = input::items_of(script);
+    let calls = &items[0..n / 2];
     if refuse_unknown(calls) {
         return;
     }

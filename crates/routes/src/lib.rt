@@ -15,11 +15,11 @@ const MOST_ROUTES: u8 = 30;
 const LONGEST_ROUTE: u8 = 31;
 
 // The byte of a record at a place, read straight: the count at 0, and then the segments.
-fn way_byte(ways: &[u8; 960], r: u8, p: u8) -> u8
+fn route_byte(routebytes: &[u8; 960], r: u8, p: u8) -> u8
     requires { ⌜ (1 ≤ r) × (r ≤ mostRoutes) × (p ≤ longestRoute) ⌝ }
-    ensures { λ r′. ⌜ r′ ≡ segmentAt (now (ways .entry)) r p ⌝ }
+    ensures { λ r′. ⌜ r′ ≡ segmentAt (now (routebytes .entry)) r p ⌝ }
 {
-    ways[32 * (r as usize) - 32 + (p as usize)]
+    routebytes[32 * (r as usize) - 32 + (p as usize)]
 }
 
 fn step_ok(next: &[u8; 124], n: u8, count: u8, p: u8, before: u8, segment: u8) -> bool
@@ -35,13 +35,13 @@ fn step_ok(next: &[u8; 124], n: u8, count: u8, p: u8, before: u8, segment: u8) -
 }
 
 // The places after the count are zero.
-fn rest_zero(ways: &[u8; 960], r: u8, count: u8) -> bool
+fn rest_zero(routebytes: &[u8; 960], r: u8, count: u8) -> bool
     requires { ⌜ (1 ≤ r) × (r ≤ mostRoutes) ⌝ }
-    ensures { λ r′. ⌜ r′ ≡ every longestRoute (λ p. leb p count || eqb (segmentAt (now (ways .entry)) r p) 0) ⌝ }
+    ensures { λ r′. ⌜ r′ ≡ every longestRoute (λ p. leb p count || eqb (segmentAt (now (routebytes .entry)) r p) 0) ⌝ }
 {
     let mut p = count;
     while p < LONGEST_ROUTE {
-        if way_byte(ways, r, p + 1) != 0 {
+        if route_byte(routebytes, r, p + 1) != 0 {
             return false;
         }
         p += 1;
@@ -50,23 +50,23 @@ fn rest_zero(ways: &[u8; 960], r: u8, count: u8) -> bool
 }
 
 // A record that is all zero. No early return: its 32 bytes are compared at one stroke.
-fn is_blank(ways: &[u8; 960], r: u8) -> bool
+fn is_blank(routebytes: &[u8; 960], r: u8) -> bool
     requires { ⌜ (1 ≤ r) × (r ≤ mostRoutes) ⌝ }
-    ensures { λ r′. ⌜ r′ ≡ every (longestRoute + 1) (λ k. eqb (segmentAt (now (ways .entry)) r (k - 1)) 0) ⌝ }
+    ensures { λ r′. ⌜ r′ ≡ every (longestRoute + 1) (λ k. eqb (segmentAt (now (routebytes .entry)) r (k - 1)) 0) ⌝ }
 {
     let mut blank = true;
     let mut p: u8 = 0;
     while p <= LONGEST_ROUTE {
-        blank = blank & (way_byte(ways, r, p) == 0);
+        blank = blank & (route_byte(routebytes, r, p) == 0);
         p += 1;
     }
     blank
 }
 
-fn count_ok(ways: &[u8; 960], routes: u8, r: u8) -> bool
-    ensures { λ r′. ⌜ r′ ≡ countIn (now (ways .entry)) routes r ⌝ }
+fn count_ok(routebytes: &[u8; 960], routes: u8, r: u8) -> bool
+    ensures { λ r′. ⌜ r′ ≡ countIn (now (routebytes .entry)) routes r ⌝ }
 {
-    let count = count_of(ways, r);
+    let count = count_of(routebytes, r);
     if r <= routes {
         return (1 <= count) & (count <= LONGEST_ROUTE);
     }
@@ -74,27 +74,27 @@ fn count_ok(ways: &[u8; 960], routes: u8, r: u8) -> bool
 }
 
 // A record above R is zero. A route is walked up to its count, each place with the segment before it.
-fn route_ok<'a>(next: &'a [u8; 124], ways: &'a [u8; 960], n: u8, routes: u8, r: u8) -> bool
+fn route_ok<'a>(next: &'a [u8; 124], routebytes: &'a [u8; 960], n: u8, routes: u8, r: u8) -> bool
     requires { ⌜ (1 ≤ r) × (r ≤ mostRoutes) ⌝ }
-    ensures { λ r′. ⌜ r′ ≡ routeIn (now (next .entry)) (now (ways .entry)) n routes r ⌝ }
+    ensures { λ r′. ⌜ r′ ≡ routeIn (now (next .entry)) (now (routebytes .entry)) n routes r ⌝ }
 {
     if routes < r {
-        return is_blank(ways, r);
+        return is_blank(routebytes, r);
     }
-    if !count_ok(ways, routes, r) {
+    if !count_ok(routebytes, routes, r) {
         return false;
     }
-    let count = way_byte(ways, r, 0);
-    if !rest_zero(ways, r, count) {
+    let count = route_byte(routebytes, r, 0);
+    if !rest_zero(routebytes, r, count) {
         return false;
     }
-    let mut before = way_byte(ways, r, 1);
+    let mut before = route_byte(routebytes, r, 1);
     if !step_ok(next, n, count, 1, count, before) {
         return false;
     }
     let mut i: u8 = 1;
     while i < count {
-        let segment = way_byte(ways, r, i + 1);
+        let segment = route_byte(routebytes, r, i + 1);
         if !step_ok(next, n, count, i + 1, before, segment) {
             return false;
         }
@@ -105,12 +105,12 @@ fn route_ok<'a>(next: &'a [u8; 124], ways: &'a [u8; 960], n: u8, routes: u8, r: 
 }
 
 // The least of all route records that breaks the rule, 0 where none does.
-pub fn first_bad_route<'a>(next: &'a [u8; 124], ways: &'a [u8; 960], n: u8, routes: u8) -> u8
-    ensures { λ r. ⌜ r ≡ firstFailing mostRoutes (routeIn (now (next .entry)) (now (ways .entry)) n routes) ⌝ }
+pub fn first_bad_route<'a>(next: &'a [u8; 124], routebytes: &'a [u8; 960], n: u8, routes: u8) -> u8
+    ensures { λ r. ⌜ r ≡ firstFailing mostRoutes (routeIn (now (next .entry)) (now (routebytes .entry)) n routes) ⌝ }
 {
     let mut i: u8 = 0;
     while i < MOST_ROUTES {
-        if !route_ok(next, ways, n, routes, i + 1) {
+        if !route_ok(next, routebytes, n, routes, i + 1) {
             return i + 1;
         }
         i += 1;

@@ -8,9 +8,9 @@ use Rattle.lists.specs.Words.{nth, every, least, tabulate, firstFailing}
 use Rattle.lists.specs.Tests.{Test, _⇒_, firstOf}
 use Rattle.lists.proofs.Loops.{every-at, least-same}
 use Rattle.braking.specs.Braking.{fallingSum, S}
-use Rattle.file.specs.Bytes.{half, word, zeros}
+use Rattle.file.specs.Bytes.{twoAt, fourAt, zeros}
 use Rattle.file.specs.Blocks.{fileSize, block, sums, intact, kindOf, filed, firstDamaged, firstMisfiled}
-use Rattle.decoding.specs.Decoding.{segmentBlock, lengthIn, limitIn, linkIn, flagsIn, wayIn, decoded}
+use Rattle.decoding.specs.Decoding.{segmentBlock, lengthIn, limitIn, linkIn, flagsIn, routeByteIn, decoded}
 use Rattle.reading.specs.Verdict.{headerFiled, reserved, recordOk, atBlock, atNumber, verdict}
 use Rattle.tables.specs.declared.Tables.{Tables}
 use Rattle.tables.specs.Bounds.{mostSegments, mostRoutes}
@@ -34,7 +34,7 @@ tablesOf d length2 limit3 =
       next = 3 ∷ 0 ∷ 3 ∷ replicate 121 0;
       previous = 0 ∷ 0 ∷ 0 ∷ 0 ∷ 1 ∷ 2 ∷ replicate 118 0;
       flags = 1 ∷ 1 ∷ 2 ∷ replicate 59 0;
-      ways = 2 ∷ 1 ∷ 3 ∷ replicate 29 0 ++ 2 ∷ 2 ∷ 3 ∷ replicate 925 0;
+      routebytes = 2 ∷ 1 ∷ 3 ∷ replicate 29 0 ++ 2 ∷ 2 ∷ 3 ∷ replicate 925 0;
     }
 
 -- the rules that an edge can break, by what each finds: the first damaged block, whether header and margin are met, the first
@@ -60,10 +60,10 @@ module _ (d length2 limit3 first0 second0 first1 second1 : ℕ) where
 
   -- its tables are those of Area A; a number that an edge changes is read back from its bytes
   abbrev T : Tables
-  T = tablesOf (word (four d) 0) (word (four length2) 0) (half (two limit3) 0)
+  T = tablesOf (fourAt (four d) 0) (fourAt (four length2) 0) (twoAt (two limit3) 0)
 
   pub tables : decoded areaA ≡ T
-  unfolding decoded segmentBlock lengthIn limitIn linkIn flagsIn wayIn tabulate
+  unfolding decoded segmentBlock lengthIn limitIn linkIn flagsIn routeByteIn tabulate
   tables = rw (blocks .0, blocks .1, blocks .2, blocks .3, blocks .4) (unfold bytes tablesOf in refl)
 
   -- what no edge breaks: rules 1 and 3, of rule 4 the version and the zeros, of rule 6 the zeros, rules 7, 8 and 10
@@ -95,9 +95,9 @@ module _ (d length2 limit3 first0 second0 first1 second1 : ℕ) where
   unfolding tablesOf orderIn nth least
   orders = refl
 
-  ways : firstFailing mostRoutes (routeOk T) ≡ 0
+  routebytes : firstFailing mostRoutes (routeOk T) ≡ 0
   unfolding tablesOf routeIn countIn stepIn stepBy linksTo countOf segmentAt nth every least
-  ways = refl
+  routebytes = refl
 
   -- so the other rules decide
   abbrev others : Test
@@ -105,7 +105,7 @@ module _ (d length2 limit3 first0 second0 first1 second1 : ℕ) where
 
   judged : verdict areaA ≡ others
   unfolding verdict left
-  judged = simp (size, tables, misfiled, headed, records, joints, orders, ways)
+  judged = simp (size, tables, misfiled, headed, records, joints, orders, routebytes)
 
   -- where `found` unfolds, what they find computes
   unfoldable pub found : Test

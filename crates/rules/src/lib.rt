@@ -225,6 +225,6 @@ pub fn tables_meet(t: Tables) -> bool
     let unjoined = first_unjoined(&t.next, &t.previous, t.segments);
     let unordered = first_unordered(&t.next, t.segments);
     let dropping = first_dropping(&t.limits, &t.next, t.braking, t.segments);
-    let route = routes::first_bad_route(&t.next, &t.ways, t.segments, t.routes);
+    let route = routes::first_bad_route(&t.next, &t.routebytes, t.segments, t.routes);
     margin & (segment == 0) & (unjoined == 0) & (unordered == 0) & (dropping == 0) & (route == 0)
 }

@@ -25,57 +25,57 @@ pub struct FileRan {
     pub calls: usize,
 }
 
-// The word at a place, and 0 past the end.
-fn word_at(words: &[u16], at: usize) -> u16
-    ensures { λ r. ⌜ r ≡ getD (now (words .entry)) at 0 ⌝ }
+// The item at a place, and 0 past the end.
+fn item_at(items: &[u16], at: usize) -> u16
+    ensures { λ r. ⌜ r ≡ getD (now (items .entry)) at 0 ⌝ }
 {
-    if at < words.len() { words[at] } else { 0 }
+    if at < items.len() { items[at] } else { 0 }
 }
 
-// So many words from a start, as far as there are any.
-fn part(words: &[u16], start: usize, count: usize) -> &[u16]
-    ensures { λ r. ⌜ now r ≡ take count (drop start (now (words .entry))) ⌝ }
+// So many items from a start, as far as there are any.
+fn part(items: &[u16], start: usize, count: usize) -> &[u16]
+    ensures { λ r. ⌜ now r ≡ take count (drop start (now (items .entry))) ⌝ }
 {
-    let n = words.len();
+    let n = items.len();
     if n <= start {
-        return &words[n..n];
+        return &items[n..n];
     }
     if n - start <= count {
-        return &words[start..n];
+        return &items[start..n];
     }
-    &words[start..start + count]
+    &items[start..start + count]
 }
 
-fn is_call(words: &[u16]) -> bool
-    ensures { λ r. ⌜ r ≡ isCall (now (words .entry)) ⌝ }
+fn is_call(items: &[u16]) -> bool
+    ensures { λ r. ⌜ r ≡ isCall (now (items .entry)) ⌝ }
 {
-    let kind = word_at(words, 0);
-    (words.len() == 32) & (1 <= kind) & (kind <= 6)
+    let kind = item_at(items, 0);
+    (items.len() == 32) & (1 <= kind) & (kind <= 6)
 }
 
 // The wishes of a record, lent as a part of it.
-fn wishes_of(words: &[u16]) -> &[u16]
-    ensures { λ r. ⌜ now r ≡ wishesOf (now (words .entry)) ⌝ }
+fn wishes_of(items: &[u16]) -> &[u16]
+    ensures { λ r. ⌜ now r ≡ wishesOf (now (items .entry)) ⌝ }
 {
-    let said = word_at(words, 6);
+    let said = item_at(items, 6);
     let count = if said < 25 { said } else { 25 };
-    part(words, 7, count as usize)
+    part(items, 7, count as usize)
 }
 
 // The call that a record stands for, on an area.
-fn call(area: Area, words: &[u16]) -> Outcome
-    ensures { λ r. ⌜ r ≡ called area (callOf (now (words .entry))) ⌝ }
+fn call(area: Area, items: &[u16]) -> Outcome
+    ensures { λ r. ⌜ r ≡ called area (callOf (now (items .entry))) ⌝ }
 {
-    let kind = word_at(words, 0);
-    let train = word_at(words, 1);
+    let kind = item_at(items, 0);
+    let train = item_at(items, 1);
     match kind {
         1 => {
-            let route = word_at(words, 2);
-            let speed = word_at(words, 3);
+            let route = item_at(items, 2);
+            let speed = item_at(items, 3);
             area.enter(train, route, speed)
         }
         2 => area.leave(train),
-        3 => area.speed(wishes_of(words)),
+        3 => area.speed(wishes_of(items)),
         4 => area.request(),
         5 => area.grant(),
         _ => area.position(),
@@ -91,11 +91,11 @@ pub fn run(area: Area, script: &[u16], answers: &mut [u8]) -> Ran
     let mut a = area;
     let mut k: usize = 0;
     while k < answers.len() {
-        let words = part(script, 32 * k, 32);
-        if !is_call(words) {
+        let items = part(script, 32 * k, 32);
+        if !is_call(items) {
             return Ran { area: a, calls: k };
         }
-        let o = call(a, words);
+        let o = call(a, items);
         let answer = o.answer;
         answers[k] = answers::number_of(answer);
         a = o.area;

@@ -84,7 +84,7 @@ module _ (T : Tables) (K : Consistent T) (w : World) (k : Kept T (w .area .alloc
       (λ q. inl (record { place = x t .place; own = own-here t o; segment = sym (own-segment t o) ∙ sym q }))
       (λ q.
       let n = next-is T K (x t) (ok t o .onRoute) (q .0) in
-      let later : x t .place < countOf (T .ways) (routeOf T w t) = rw (sym (k .routes t o)) (n .later) in
+      let later : x t .place < countOf (T .routebytes) (routeOf T w t) = rw (sym (k .routes t o)) (n .later) in
       let same : segmentOn T w t (x t .place + 1) ≡ s = rw (sym (k .routes t o)) (sym (n .same)) ∙ sym (q .1) in
       inr (record { place = x t .place; own = own-here t o; later = later; next = same; granted = q .2 }))
 
@@ -102,9 +102,9 @@ module _ (T : Tables) (K : Consistent T) (w : World) (k : Kept T (w .area .alloc
       → at (T .lengths) (ownOf T (x t)) + at (T .lengths) (nextOf T (x t)) ≤ reach T w t (x t .place)
   next-reached t o some e =
       let n = next-is T K (x t) (ok t o .onRoute) some in
-      let later : x t .place < countOf (T .ways) (routeOf T w t) = rw (sym (k .routes t o)) (n .later) in
+      let later : x t .place < countOf (T .routebytes) (routeOf T w t) = rw (sym (k .routes t o)) (n .later) in
       let same : segmentOn T w t (x t .place + 1) ≡ nextOf T (x t) = rw (sym (k .routes t o)) (sym (n .same)) in
-      let more = held-first (countOf (T .ways) (routeOf T w t) - x t .place) t (x t .place + 1) (nextOf T (x t)) (omega arith) same e in
+      let more = held-first (countOf (T .routebytes) (routeOf T w t) - x t .place) t (x t .place + 1) (nextOf T (x t)) (omega arith) same e in
       omega (arith, more, ap (at (T .lengths)) (own-segment t o))
 
   run-margin : (t : ℕ) → OnArea T w t → toRun T (w .area .due) (x t .speed) ≤ T .margin

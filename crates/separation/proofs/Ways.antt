@@ -31,20 +31,20 @@ use Rattle.separation.proofs.Demand3.{Good, good-fresh, good-next, good
 
 -- the place of a way is the one where it lies
 place-of-way :
-    (T : Tables) (r way p : ℕ) → 1 ≤ p → p ≤ countOf (T .ways) r → startAfter T r (p - 1) ≤ way → way < startAfter T r p
+    (T : Tables) (r way p : ℕ) → 1 ≤ p → p ≤ countOf (T .routebytes) r → startAfter T r (p - 1) ≤ way → way < startAfter T r p
     → placeOfWay T r way ≡ p
 unfolding placeOfWay
 place-of-way T r way p low high from to =
     let ends : ℕ → Bool = λ q. ltb way (startAfter T r q) in
-    let u = least-upto ends (countOf (T .ways) r) p low high (lt-ltb way (startAfter T r p) to) in
-    let m = least (countOf (T .ways) r) ends in
-    let e = ltb-true way (startAfter T r m) (least-holds ends (countOf (T .ways) r) (u .0)) in
+    let u = least-upto ends (countOf (T .routebytes) r) p low high (lt-ltb way (startAfter T r p) to) in
+    let m = least (countOf (T .routebytes) r) ends in
+    let e = ltb-true way (startAfter T r m) (least-holds ends (countOf (T .routebytes) r) (u .0)) in
     one-place T r way m p (u .0) low (omega (arith, start-mono T r (m - 1) (p - 1) (omega arith))) e from to
 
 -- the train that a way shows is the train whose place and position are those of the way
 shown-by :
     (T U : Tables) (x : Train) (way′ r way p : ℕ) → U ≡ T → isOn x ≡ true → way′ ≡ way → x .route ≡ r
-    → 1 ≤ p → p ≤ countOf (T .ways) r → startAfter T r (p - 1) ≤ way → way < startAfter T r p
+    → 1 ≤ p → p ≤ countOf (T .routebytes) r → startAfter T r (p - 1) ≤ way → way < startAfter T r p
     → x .place ≡ p → x .position ≡ way - startAfter T r (p - 1)
     → shownTrain U (record { route = x .route; way = way′; speed = x .speed; asks = x .asks }) ≡ x
 unfolding shownTrain

@@ -39,7 +39,7 @@ wayTrainAt i t = nth offWay (i .trains) t
 
 -- the place of a way: the first of the route that ends beyond it
 unfoldable pub placeOfWay : Tables → (route way : ℕ) → ℕ
-placeOfWay T r way = least (countOf (T .ways) r) (λ (p : ℕ). ltb way (startAfter T r p))
+placeOfWay T r way = least (countOf (T .routebytes) r) (λ (p : ℕ). ltb way (startAfter T r p))
 
 -- the train that the record shows
 unfoldable pub shownTrain : Tables → WayTrain → Train

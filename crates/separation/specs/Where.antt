@@ -25,12 +25,12 @@ module _ (T : Tables) (w : World) where
 
   -- the segment at a place of its route
   abbrev pub segmentOn : (t p : ℕ) → ℕ
-  segmentOn t p = segmentAt (T .ways) (routeOf t) p
+  segmentOn t p = segmentAt (T .routebytes) (routeOf t) p
 
   -- its own segment: the one of its route that starts at or before its way and ends beyond it, lengths summed from the route's start
   pub record OwnPlace (t p : ℕ) : Type 0 where
     pub on : OnArea t
-    pub place : (1 ≤ p) × (p ≤ countOf (T .ways) (routeOf t))
+    pub place : (1 ≤ p) × (p ≤ countOf (T .routebytes) (routeOf t))
     pub starts : startAfter T (routeOf t) (p - 1) ≤ wayOf t
     pub ends : wayOf t < startAfter T (routeOf t) p
 
@@ -50,7 +50,7 @@ module _ (T : Tables) (w : World) where
   pub record GrantedNext (t s : ℕ) : Type 0 where
     pub place : ℕ
     pub own : OwnPlace t place
-    pub later : place < countOf (T .ways) (routeOf t)
+    pub later : place < countOf (T .routebytes) (routeOf t)
     pub next : segmentOn t (place + 1) ≡ s
     pub granted : w .history .granted t s ≡ true
 
@@ -73,4 +73,4 @@ module _ (T : Tables) (w : World) where
 
   -- the summed lengths of its own segment and of those allocated to it that follow on its route without a gap
   abbrev pub reach : (t p : ℕ) → ℕ
-  reach t p = at (T .lengths) (segmentOn t p) + heldFrom (countOf (T .ways) (routeOf t) - p) t (p + 1)
+  reach t p = at (T .lengths) (segmentOn t p) + heldFrom (countOf (T .routebytes) (routeOf t) - p) t (p + 1)

@@ -92,7 +92,7 @@ pub fn trains_sound(tables: Tables, allocations: [u8; 62], due: u8, trains: [Tra
         let x = trains[i];
         let t = (i + 1) as u8;
         let spot = trains::spot_of(
-            &tables.ways,
+            &tables.routebytes,
             &tables.lengths,
             &tables.limits,
             &allocations,
@@ -126,14 +126,14 @@ fn slot_of(h: u8) -> usize
     0
 }
 
-fn allocation_sound(ways: &[u8; 960], segments: u8, s: u8, h: u8, x: Train) -> bool
-    ensures { λ r. ⌜ r ≡ (eqb h 0 || (leb h mostTrains && leb s segments && isOn x && (eqb (ownIn (now (ways .entry)) x) s || eqb (nextIn (now (ways .entry)) x) s))) ⌝ }
+fn allocation_sound(routebytes: &[u8; 960], segments: u8, s: u8, h: u8, x: Train) -> bool
+    ensures { λ r. ⌜ r ≡ (eqb h 0 || (leb h mostTrains && leb s segments && isOn x && (eqb (ownIn (now (routebytes .entry)) x) s || eqb (nextIn (now (routebytes .entry)) x) s))) ⌝ }
 {
     if h == 0 {
         return true;
     }
-    let own = trains::own_of(ways, x);
-    let next = trains::next_of(ways, x);
+    let own = trains::own_of(routebytes, x);
+    let next = trains::next_of(routebytes, x);
     (h <= 24) & (s <= segments) & (0 < x.route) & ((own == s) | (next == s))
 }
 
@@ -145,7 +145,7 @@ pub fn allocations_sound(tables: Tables, allocations: [u8; 62], trains: [Train; 
         let h = allocations[i];
         let k = slot_of(h);
         let x = trains[k];
-        if !allocation_sound(&tables.ways, tables.segments, (i + 1) as u8, h, x) {
+        if !allocation_sound(&tables.routebytes, tables.segments, (i + 1) as u8, h, x) {
             return false;
         }
         i += 1;

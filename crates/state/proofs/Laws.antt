@@ -11,7 +11,7 @@ use borrow.Author.Tests.{eq-eqb, ne-eqb, lt-ltb, le-ltb, le-leb, lt-leb}
 use Rattle.lists.specs.Words.{if_then_else_, at, each}
 use Rattle.lists.proofs.Numbered.{nth-out, each-keeps}
 use Rattle.lists.proofs.Loops.{filled, Made, make-begin, make-more, make-over}
-use Rattle.file.specs.Bytes.{byteAt, half, word}
+use Rattle.file.specs.Bytes.{byteAt, twoAt, fourAt}
 use Rattle.file.specs.Blocks.{fileSize}
 use Rattle.tables.specs.Tables.{blankTables}
 use Rattle.decoding.specs.Decoding.{decoded}
@@ -95,7 +95,7 @@ module _ {due : ℕ} {allocations : List ℕ} {trains : List Train} {old : List 
 pub train-read :
     (s : List ℕ) (t : ℕ) → let k = 32 * t + 32 in
     _≡_ {A = Train}
-    (record { route = byteAt s k; place = byteAt s (k + 1); position = word s (k + 4); speed = half s (k + 8); asks = not (eqb (byteAt s (k + 2)) 0) })
+    (record { route = byteAt s k; place = byteAt s (k + 1); position = fourAt s (k + 4); speed = twoAt s (k + 8); asks = not (eqb (byteAt s (k + 2)) 0) })
     (trainOf s t)
 unfolding trainOf
 train-read s t =

@@ -5,7 +5,7 @@ use mathlib.Core.List.{List}
 use lib.Dec.{leb, ltb, eqb}
 use lib.ListN.{length}
 use Rattle.lists.specs.Words.{if_then_else_, at, each, tabulate}
-use Rattle.file.specs.Bytes.{byteAt, half, word}
+use Rattle.file.specs.Bytes.{byteAt, twoAt, fourAt}
 use Rattle.file.specs.Blocks.{fileSize}
 use Rattle.tables.specs.declared.Tables.{Tables}
 use Rattle.tables.specs.Tables.{blankTables}
@@ -54,8 +54,8 @@ trainOf state t =
     record {
       route = byteAt state (32 * t + 32);
       place = byteAt state (32 * t + 33);
-      position = word state (32 * t + 36);
-      speed = half state (32 * t + 40);
+      position = fourAt state (32 * t + 36);
+      speed = twoAt state (32 * t + 40);
       asks = not (eqb (byteAt state (32 * t + 34)) 0);
     }
 

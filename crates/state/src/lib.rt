@@ -90,8 +90,8 @@ fn train_of(state: &[u8], t: u8) -> Train
     Train {
         route: file::byte(state, i),
         place: file::byte(state, i + 1),
-        position: file::word_at(state, at + 4),
-        speed: file::half_at(state, at + 8),
+        position: file::four_at(state, at + 4),
+        speed: file::two_at(state, at + 8),
         asks: file::byte(state, i + 2) != 0,
     }
 }

@@ -76,7 +76,7 @@ pub fn sped_all(
         let x = trains[i];
         let t = (i + 1) as u8;
         let spot = trains::spot_of(
-            &tables.ways,
+            &tables.routebytes,
             &tables.lengths,
             &tables.limits,
             &allocations,
@@ -109,7 +109,7 @@ pub fn requested_all(tables: Tables, allocations: [u8; 62], trains: [Train; 24])
         let x = trains[i];
         let t = (i + 1) as u8;
         let spot = trains::spot_of(
-            &tables.ways,
+            &tables.routebytes,
             &tables.lengths,
             &tables.limits,
             &allocations,
@@ -124,11 +124,11 @@ pub fn requested_all(tables: Tables, allocations: [u8; 62], trains: [Train; 24])
 
 // ---- grant
 // The segment that a train asks for; 0 where it asks for none.
-fn asked_by(ways: &[u8; 960], x: Train) -> u8
-    ensures { λ r. ⌜ r ≡ (if x .asks then nextIn (now (ways .entry)) x else 0) ⌝ }
+fn asked_by(routebytes: &[u8; 960], x: Train) -> u8
+    ensures { λ r. ⌜ r ≡ (if x .asks then nextIn (now (routebytes .entry)) x else 0) ⌝ }
 {
     if x.asks {
-        return trains::next_of(ways, x);
+        return trains::next_of(routebytes, x);
     }
     0
 }
@@ -140,7 +140,7 @@ fn asked_all(tables: Tables, trains: [Train; 24]) -> [u8; 24]
     let mut i: usize = 0;
     while i < 24 {
         let x = trains[i];
-        new[i] = asked_by(&tables.ways, x);
+        new[i] = asked_by(&tables.routebytes, x);
         i += 1;
     }
     new

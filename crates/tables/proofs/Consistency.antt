@@ -80,11 +80,11 @@ module _ (T : Tables) (m : Meets T) where
       let f = simp and-iff at h in
       leb-true _ _ (of-link (T .next) (λ (k : ℕ). leb (at (T .limits) s) (at (T .limits) k + T .braking)) s (f .0) (f .1) n l some)
 
-  route-facts : (r : ℕ) → 1 ≤ r → r ≤ T .routes → (countIn (T .ways) (T .routes) r ≡ true) × (every longestRoute (stepIn (T .next) (T .ways) (T .segments) r) ≡ true)
+  route-facts : (r : ℕ) → 1 ≤ r → r ≤ T .routes → (countIn (T .routebytes) (T .routes) r ≡ true) × (every longestRoute (stepIn (T .next) (T .routebytes) (T .segments) r) ≡ true)
   unfolding routeIn
   route-facts r low high = let f = header-facts in and-eq-true-iff _ _ .0 (m .route r low (omega arith))
 
-  count-facts : (r : ℕ) → 1 ≤ r → r ≤ T .routes → (1 ≤ countOf (T .ways) r) × (countOf (T .ways) r ≤ longestRoute)
+  count-facts : (r : ℕ) → 1 ≤ r → r ≤ T .routes → (1 ≤ countOf (T .routebytes) r) × (countOf (T .routebytes) r ≤ longestRoute)
   unfolding countIn
   count-facts r low high =
       let h = rw (le-leb r (T .routes) high) at (route-facts r low high .0) in
@@ -92,14 +92,14 @@ module _ (T : Tables) (m : Meets T) where
 
   -- of a place up to the count: its number is 1 to N, and after the first place the segment before links to it
   step-facts :
-      (r p : ℕ) → 1 ≤ r → r ≤ T .routes → 1 ≤ p → p ≤ countOf (T .ways) r
-      → (IsSegment T (segmentAt (T .ways) r p)) × (2 ≤ p → linksTo (T .next) (segmentAt (T .ways) r (p - 1)) (segmentAt (T .ways) r p) ≡ true)
+      (r p : ℕ) → 1 ≤ r → r ≤ T .routes → 1 ≤ p → p ≤ countOf (T .routebytes) r
+      → (IsSegment T (segmentAt (T .routebytes) r p)) × (2 ≤ p → linksTo (T .next) (segmentAt (T .routebytes) r (p - 1)) (segmentAt (T .routebytes) r p) ≡ true)
   unfolding stepIn stepBy
   step-facts r p low high from to =
       let c = count-facts r low high in
-      let h = rw (le-leb p (countOf (T .ways) r) to) at (every-at _ longestRoute (route-facts r low high .1) p from (omega arith)) in
+      let h = rw (le-leb p (countOf (T .routebytes) r) to) at (every-at _ longestRoute (route-facts r low high .1) p from (omega arith)) in
       let f = simp and-iff at h in
-      let s = segmentAt (T .ways) r p in (
+      let s = segmentAt (T .routebytes) r p in (
         record { from = leb-true 1 s (f .0 .0); to = leb-true s (T .segments) (f .0 .1) },
         λ later. cases (either (eqb p 1) _ (f .1)) (λ e. absurd (omega (arith, eqb-true p 1 e))) (λ e. e),
       )

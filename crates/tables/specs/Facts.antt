@@ -38,13 +38,13 @@ pub record Consistent (T : Tables) : Type 0 where
   pub long : (s : ℕ) → IsSegment T s → T .margin + T .gmax < at (T .lengths) s
   pub short : (s : ℕ) → IsSegment T s → at (T .lengths) s ≤ longest
   pub limited : (s : ℕ) → IsSegment T s → (1 ≤ at (T .limits) s) × (at (T .limits) s ≤ T .gmax)
-  -- links lead to segments of the area, are matched both ways, rise, and drop the limit by at most `b`
+  -- links lead to segments of the area, are matched both routebytes, rise, and drop the limit by at most `b`
   pub linked : (s n : ℕ) → IsSegment T s → Follows T s n → n ≤ T .segments
   pub back : (s n : ℕ) → IsSegment T s → Follows T s n → linksTo (T .previous) n s ≡ true
   pub forth : (s n : ℕ) → IsSegment T s → 1 ≤ n → linksTo (T .previous) s n ≡ true → linksTo (T .next) n s ≡ true
   pub rises : (s n : ℕ) → IsSegment T s → Follows T s n → s < n
   pub gentle : (s n : ℕ) → IsSegment T s → Follows T s n → at (T .limits) s ≤ at (T .limits) n + T .braking
   -- a route has 1 to 31 segments of the area, each linked to the next
-  pub counted : (r : ℕ) → 1 ≤ r → r ≤ T .routes → (1 ≤ countOf (T .ways) r) × (countOf (T .ways) r ≤ longestRoute)
-  pub placed : (r p : ℕ) → 1 ≤ r → r ≤ T .routes → 1 ≤ p → p ≤ countOf (T .ways) r → IsSegment T (segmentAt (T .ways) r p)
-  pub stepped : (r p : ℕ) → 1 ≤ r → r ≤ T .routes → 1 ≤ p → p < countOf (T .ways) r → Follows T (segmentAt (T .ways) r p) (segmentAt (T .ways) r (p + 1))
+  pub counted : (r : ℕ) → 1 ≤ r → r ≤ T .routes → (1 ≤ countOf (T .routebytes) r) × (countOf (T .routebytes) r ≤ longestRoute)
+  pub placed : (r p : ℕ) → 1 ≤ r → r ≤ T .routes → 1 ≤ p → p ≤ countOf (T .routebytes) r → IsSegment T (segmentAt (T .routebytes) r p)
+  pub stepped : (r p : ℕ) → 1 ≤ r → r ≤ T .routes → 1 ≤ p → p < countOf (T .routebytes) r → Follows T (segmentAt (T .routebytes) r p) (segmentAt (T .routebytes) r (p + 1))

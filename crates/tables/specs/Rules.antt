@@ -83,18 +83,18 @@ unfoldable pub stepBy : (next : List ℕ) (n count p before segment : ℕ) → B
 stepBy next n count p before segment =
     if leb p count then leb 1 segment && leb segment n && (eqb p 1 || linksTo next before segment) else eqb segment 0
 
-unfoldable pub stepIn : (next ways : List ℕ) (n r p : ℕ) → Bool
-stepIn next ways n r p = stepBy next n (countOf ways r) p (segmentAt ways r (p - 1)) (segmentAt ways r p)
+unfoldable pub stepIn : (next routebytes : List ℕ) (n r p : ℕ) → Bool
+stepIn next routebytes n r p = stepBy next n (countOf routebytes r) p (segmentAt routebytes r (p - 1)) (segmentAt routebytes r p)
 
 -- the count is 1 to 31 of a route up to R, and 0 of a record above R
-unfoldable pub countIn : (ways : List ℕ) (R r : ℕ) → Bool
-countIn ways R r = if leb r R then leb 1 (countOf ways r) && leb (countOf ways r) longestRoute else eqb (countOf ways r) 0
+unfoldable pub countIn : (routebytes : List ℕ) (R r : ℕ) → Bool
+countIn routebytes R r = if leb r R then leb 1 (countOf routebytes r) && leb (countOf routebytes r) longestRoute else eqb (countOf routebytes r) 0
 
-unfoldable pub routeIn : (next ways : List ℕ) (n R r : ℕ) → Bool
-routeIn next ways n R r = countIn ways R r && every longestRoute (stepIn next ways n r)
+unfoldable pub routeIn : (next routebytes : List ℕ) (n R r : ℕ) → Bool
+routeIn next routebytes n R r = countIn routebytes R r && every longestRoute (stepIn next routebytes n r)
 
 abbrev pub routeOk : Tables → ℕ → Bool
-routeOk T = routeIn (T .next) (T .ways) (T .segments) (T .routes)
+routeOk T = routeIn (T .next) (T .routebytes) (T .segments) (T .routes)
 
 -- "Tables meet 4 to 10": rules 6 and 10 of all records, rules 7 to 9 of the segments 1 to N
 unfoldable pub meets : Tables → Bool

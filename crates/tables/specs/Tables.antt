@@ -36,12 +36,12 @@ rowOf lengths limits next previous flags s =
 abbrev pub segmentOf : Tables → ℕ → Segment
 segmentOf T s = rowOf (T .lengths) (T .limits) (T .next) (T .previous) (T .flags) s
 
--- how many segments route r has, and the segment at a place of it, counted from 1; `ways` has 32 bytes a route, the count first
+-- how many segments route r has, and the segment at a place of it, counted from 1; `routebytes` has 32 bytes a route, the count first
 unfoldable pub countOf : List ℕ → ℕ → ℕ
-countOf ways r = at ways (32 * r - 31)
+countOf routebytes r = at routebytes (32 * r - 31)
 
 unfoldable pub segmentAt : List ℕ → ℕ → ℕ → ℕ
-segmentAt ways r p = at ways (32 * r - 31 + p)
+segmentAt routebytes r p = at routebytes (32 * r - 31 + p)
 
 -- the braking distance in an area: S at the area's rate
 abbrev pub brakingDistance : Tables → ℕ → ℕ
@@ -61,5 +61,5 @@ blankTables =
       next = replicate 124 0;
       previous = replicate 124 0;
       flags = replicate 62 0;
-      ways = replicate 960 0;
+      routebytes = replicate 960 0;
     }

@@ -20,7 +20,7 @@ pub struct Tables {
     pub next: [u8; 124],
     pub previous: [u8; 124],
     pub flags: [u8; 62],
-    pub ways: [u8; 960],
+    pub routebytes: [u8; 960],
 }
 
 // What the tables keep of one segment record.
@@ -48,7 +48,7 @@ pub fn blank_tables() -> Tables
         next: [0; 124],
         previous: [0; 124],
         flags: [0; 62],
-        ways: [0; 960],
+        routebytes: [0; 960],
     }
 }
 
@@ -103,21 +103,21 @@ pub fn row_of<'a>(
     }
 }
 
-pub fn count_of(ways: &[u8; 960], r: u8) -> u8
-    ensures { λ r′. ⌜ r′ ≡ countOf (now (ways .entry)) r ⌝ }
+pub fn count_of(routebytes: &[u8; 960], r: u8) -> u8
+    ensures { λ r′. ⌜ r′ ≡ countOf (now (routebytes .entry)) r ⌝ }
 {
     if r == 0 {
-        return entry_u8(ways, 0);
+        return entry_u8(routebytes, 0);
     }
-    entry_u8(ways, 32 * (r as usize) - 31)
+    entry_u8(routebytes, 32 * (r as usize) - 31)
 }
 
 // The segment at a place of a route.
-pub fn segment_at(ways: &[u8; 960], r: u8, p: u8) -> u8
-    ensures { λ r′. ⌜ r′ ≡ segmentAt (now (ways .entry)) r p ⌝ }
+pub fn segment_at(routebytes: &[u8; 960], r: u8, p: u8) -> u8
+    ensures { λ r′. ⌜ r′ ≡ segmentAt (now (routebytes .entry)) r p ⌝ }
 {
     if r == 0 {
-        return entry_u8(ways, p as usize);
+        return entry_u8(routebytes, p as usize);
     }
-    entry_u8(ways, 32 * (r as usize) - 31 + (p as usize))
+    entry_u8(routebytes, 32 * (r as usize) - 31 + (p as usize))
 }

@@ -29,7 +29,7 @@ pub record OnRoute (T : Tables) (r p : ℕ) : Type 0 where
   pub routeLow : 1 ≤ r
   pub routeHigh : r ≤ T .routes
   pub placeLow : 1 ≤ p
-  pub placeHigh : p ≤ countOf (T .ways) r
+  pub placeHigh : p ≤ countOf (T .routebytes) r
 
 pub record TrainOk (T : Tables) (due : ℕ) (held : ℕ → ℕ) (t : ℕ) (x : Train) (way : ℕ) (got : ℕ → Bool) : Type 0 where
   pub onRoute : OnRoute T (x .route) (x .place)
@@ -51,7 +51,7 @@ unfolding runIn
 run-later b due v h = rw (ne-eqb due 0 (λ e. omega arith))
 
 -- the next segment starts where this one ends
-pub start-step : (T : Tables) (r p : ℕ) → 1 ≤ p → startAfter T r p ≡ startAfter T r (p - 1) + at (T .lengths) (segmentAt (T .ways) r p)
+pub start-step : (T : Tables) (r p : ℕ) → 1 ≤ p → startAfter T r p ≡ startAfter T r (p - 1) + at (T .lengths) (segmentAt (T .routebytes) r p)
 unfolding startAfter
 start-step T r zero h = absurd (omega arith)
 start-step T r (suc n) h = let e : suc n - 1 ≡ n = omega arith in rw e
@@ -64,23 +64,23 @@ module _ (T : Tables) (K : Consistent T) where
 
   -- its next, where there is one: at the place after its own, to which its own links
   pub record NextIs (x : Train) : Type 0 where
-    pub later : x .place < countOf (T .ways) (x .route)
-    pub same : nextOf T x ≡ segmentAt (T .ways) (x .route) (x .place + 1)
+    pub later : x .place < countOf (T .routebytes) (x .route)
+    pub same : nextOf T x ≡ segmentAt (T .routebytes) (x .route) (x .place + 1)
     pub follows : Follows T (ownOf T x) (nextOf T x)
     pub segment : IsSegment T (nextOf T x)
 
-  next-there : (x : Train) → x .place < countOf (T .ways) (x .route) → nextOf T x ≡ segmentAt (T .ways) (x .route) (x .place + 1)
+  next-there : (x : Train) → x .place < countOf (T .routebytes) (x .route) → nextOf T x ≡ segmentAt (T .routebytes) (x .route) (x .place + 1)
   unfolding nextIn
-  next-there x h = rw (lt-ltb (x .place) (countOf (T .ways) (x .route)) h)
+  next-there x h = rw (lt-ltb (x .place) (countOf (T .routebytes) (x .route)) h)
 
-  next-none : (x : Train) → countOf (T .ways) (x .route) ≤ x .place → nextOf T x ≡ 0
+  next-none : (x : Train) → countOf (T .routebytes) (x .route) ≤ x .place → nextOf T x ≡ 0
   unfolding nextIn
-  next-none x h = rw (le-ltb (x .place) (countOf (T .ways) (x .route)) h)
+  next-none x h = rw (le-ltb (x .place) (countOf (T .routebytes) (x .route)) h)
 
   pub next-is : (x : Train) → OnRoute T (x .route) (x .place) → 1 ≤ nextOf T x → NextIs x
   unfolding ownIn
   next-is x o some =
-      cases (lt-or-le (x .place) (countOf (T .ways) (x .route)))
+      cases (lt-or-le (x .place) (countOf (T .routebytes) (x .route)))
       (λ h.
       let e = next-there x h in
       record {
@@ -288,7 +288,7 @@ module _ (T : Tables) (K : Consistent T) where
         let up = K .rises (ownOf T x) (nextOf T x) (own-is x (ok .onRoute)) (s .follows) in
         let long = K .long (nextOf T x) (s .segment) in
         let fast = K .limited (ownOf T x) (own-is x (ok .onRoute)) in
-        let e : segmentAt (T .ways) (x .route) (x .place + 1) ≡ nextOf T x = sym (s .same) in
+        let e : segmentAt (T .routebytes) (x .route) (x .place + 1) ≡ nextOf T x = sym (s .same) in
         let back : x .place + 1 - 1 ≡ x .place = omega arith in
         let w : startAfter T (x .route) (x .place + 1 - 1) ≡ startAfter T (x .route) (x .place - 1) + ownLength T x = rw back (start-step T (x .route) (x .place) (ok .onRoute .placeLow)) in
         record {

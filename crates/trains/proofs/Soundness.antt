@@ -70,7 +70,7 @@ module _ (T : Tables) (A : List ℕ) (due t : ℕ) (x : Train) where
       rw (
         le-leb (x .route) (T .routes) (f .route),
         le-leb 1 (x .place) (f .place .0),
-        le-leb (x .place) (countOf (T .ways) (x .route)) (f .place .1),
+        le-leb (x .place) (countOf (T .routebytes) (x .route)) (f .place .1),
         lt-ltb (x .position) (ownLength T x) (f .position),
         le-leb (x .speed) (ownLimit T x) (f .speed),
         eq-eqb (at A (ownOf T x)) t (f .own),

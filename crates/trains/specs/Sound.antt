@@ -22,7 +22,7 @@ placeIn R count length limit holder t x =
     leb (x .route) R && leb 1 (x .place) && leb (x .place) count && ltb (x .position) length && leb (x .speed) limit && eqb holder t
 
 abbrev pub placeSound : Tables → List ℕ → ℕ → Train → Bool
-placeSound T A t x = placeIn (T .routes) (countOf (T .ways) (x .route)) (ownLength T x) (ownLimit T x) (at A (ownOf T x)) t x
+placeSound T A t x = placeIn (T .routes) (countOf (T .routebytes) (x .route)) (ownLength T x) (ownLimit T x) (at A (ownOf T x)) t x
 
 -- the way still to run under full braking: B(speed) with speed due, S(speed) with another step due
 unfoldable pub runIn : (b due speed : ℕ) → ℕ

@@ -17,7 +17,7 @@ use Rattle.trains.specs.Sound.{toRun}
 -- a train on
 pub record SoundTrain (T : Tables) (A : List ℕ) (due t : ℕ) (x : Train) : Type 0 where
   pub route : x .route ≤ T .routes
-  pub place : (1 ≤ x .place) × (x .place ≤ countOf (T .ways) (x .route))
+  pub place : (1 ≤ x .place) × (x .place ≤ countOf (T .routebytes) (x .route))
   pub position : x .position < ownLength T x
   pub speed : x .speed ≤ ownLimit T x
   pub own : at A (ownOf T x) ≡ t

@@ -7,15 +7,15 @@ use Rattle.trains.specs.declared.Train.{Train}
 use Rattle.trains.specs.declared.Spot.{Spot}
 use Rattle.trains.specs.Train.{ownIn, nextIn, holdsIn}
 
-abbrev pub spotIn : (ways lengths limits A : List ℕ) (t : ℕ) → Train → Spot
-spotIn ways lengths limits A t x =
+abbrev pub spotIn : (routebytes lengths limits A : List ℕ) (t : ℕ) → Train → Spot
+spotIn routebytes lengths limits A t x =
     record {
-      count = countOf ways (x .route);
-      own = ownIn ways x;
-      holder = at A (ownIn ways x);
-      length = at lengths (ownIn ways x);
-      limit = at limits (ownIn ways x);
-      next = nextIn ways x;
-      nextlimit = at limits (nextIn ways x);
-      holds = holdsIn A t (nextIn ways x);
+      count = countOf routebytes (x .route);
+      own = ownIn routebytes x;
+      holder = at A (ownIn routebytes x);
+      length = at lengths (ownIn routebytes x);
+      limit = at limits (ownIn routebytes x);
+      next = nextIn routebytes x;
+      nextlimit = at limits (nextIn routebytes x);
+      holds = holdsIn A t (nextIn routebytes x);
     }

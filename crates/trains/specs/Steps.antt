@@ -73,7 +73,7 @@ freed T trains s h = if released T (trainAt trains h) s then 0 else h
 
 -- *Enter*: position 0 of the first segment, which becomes allocated to train t
 abbrev pub firstSegment : Tables → ℕ → ℕ
-firstSegment T r = segmentAt (T .ways) r 1
+firstSegment T r = segmentAt (T .routebytes) r 1
 
 abbrev pub takenBy : ℕ → ℕ → ℕ → ℕ → ℕ
 takenBy first t s h = if eqb s first then t else h
@@ -95,7 +95,7 @@ isExit T s = eqb (at (T .flags) s / 2) 1
 
 -- its segment is the route's last
 abbrev pub isLast : Tables → Train → Bool
-isLast T x = eqb (x .place) (countOf (T .ways) (x .route))
+isLast T x = eqb (x .place) (countOf (T .routebytes) (x .route))
 
 -- the ends of a train's speed range: from low up to the segment's limit, or near with next allocated to it up to the smaller of both
 abbrev pub low : Tables → Train → ℕ

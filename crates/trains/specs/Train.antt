@@ -40,18 +40,18 @@ abbrev pub isOn : Train → Bool
 isOn x = ltb 0 (x .route)
 
 -- its own segment: the one at its place of its route
-unfoldable pub ownIn : (ways : List ℕ) → Train → ℕ
-ownIn ways x = segmentAt ways (x .route) (x .place)
+unfoldable pub ownIn : (routebytes : List ℕ) → Train → ℕ
+ownIn routebytes x = segmentAt routebytes (x .route) (x .place)
 
 abbrev pub ownOf : Tables → Train → ℕ
-ownOf T x = ownIn (T .ways) x
+ownOf T x = ownIn (T .routebytes) x
 
 -- its **next**: the route's next segment, 0 if there is none
-unfoldable pub nextIn : (ways : List ℕ) → Train → ℕ
-nextIn ways x = if ltb (x .place) (countOf ways (x .route)) then segmentAt ways (x .route) (x .place + 1) else 0
+unfoldable pub nextIn : (routebytes : List ℕ) → Train → ℕ
+nextIn routebytes x = if ltb (x .place) (countOf routebytes (x .route)) then segmentAt routebytes (x .route) (x .place + 1) else 0
 
 abbrev pub nextOf : Tables → Train → ℕ
-nextOf T x = nextIn (T .ways) x
+nextOf T x = nextIn (T .routebytes) x
 
 -- the length and the limit of its own segment, and the limit of its next
 abbrev pub ownLength : Tables → Train → ℕ

@@ -7,4 +7,4 @@ use Rattle.tables.specs.Tables.{segmentAt}
 -- the summed lengths of the first n segments of route r: segment n + 1 of the route starts there
 unfoldable pub startAfter : Tables → ℕ → ℕ → ℕ
 startAfter T r zero = 0
-startAfter T r (suc n) = startAfter T r n + at (T .lengths) (segmentAt (T .ways) r (suc n))
+startAfter T r (suc n) = startAfter T r n + at (T .lengths) (segmentAt (T .routebytes) r (suc n))

@@ -104,18 +104,18 @@ pub fn train_at(trains: [Train; 24], n: u8) -> Train
     if i < 24 { trains[i] } else { train_off() }
 }
 
-pub fn own_of(ways: &[u8; 960], x: Train) -> u8
-    ensures { λ r. ⌜ r ≡ ownIn (now (ways .entry)) x ⌝ }
+pub fn own_of(routebytes: &[u8; 960], x: Train) -> u8
+    ensures { λ r. ⌜ r ≡ ownIn (now (routebytes .entry)) x ⌝ }
 {
-    tables::segment_at(ways, x.route, x.place)
+    tables::segment_at(routebytes, x.route, x.place)
 }
 
-pub fn next_of(ways: &[u8; 960], x: Train) -> u8
-    ensures { λ r. ⌜ r ≡ nextIn (now (ways .entry)) x ⌝ }
+pub fn next_of(routebytes: &[u8; 960], x: Train) -> u8
+    ensures { λ r. ⌜ r ≡ nextIn (now (routebytes .entry)) x ⌝ }
 {
     let place = x.place;
-    if place < tables::count_of(ways, x.route) {
-        return tables::segment_at(ways, x.route, place + 1);
+    if place < tables::count_of(routebytes, x.route) {
+        return tables::segment_at(routebytes, x.route, place + 1);
     }
     0
 }
@@ -136,19 +136,19 @@ fn holds_next(allocations: &[u8; 62], t: u8, next: u8) -> bool
 }
 
 pub fn spot_of<'a>(
-    ways: &'a [u8; 960],
+    routebytes: &'a [u8; 960],
     lengths: &'a [u32; 62],
     limits: &'a [u16; 62],
     allocations: &'a [u8; 62],
     t: u8,
     x: Train,
 ) -> Spot
-    ensures { λ r. ⌜ r ≡ spotIn (now (ways .entry)) (now (lengths .entry)) (now (limits .entry)) (now (allocations .entry)) t x ⌝ }
+    ensures { λ r. ⌜ r ≡ spotIn (now (routebytes .entry)) (now (lengths .entry)) (now (limits .entry)) (now (allocations .entry)) t x ⌝ }
 {
-    let own = own_of(ways, x);
-    let next = next_of(ways, x);
+    let own = own_of(routebytes, x);
+    let next = next_of(routebytes, x);
     Spot {
-        count: tables::count_of(ways, x.route),
+        count: tables::count_of(routebytes, x.route),
         own,
         holder: entry_u8(allocations, own as usize),
         length: entry_u32(lengths, own as usize),

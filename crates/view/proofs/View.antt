@@ -16,7 +16,7 @@ use Rattle.file.specs.Bytes.{byteAt}
 use Rattle.file.specs.Blocks.{blockSize, fileSize, block}
 use Rattle.tables.specs.Bounds.{mostRoutes, longestRoute}
 use Rattle.tables.specs.Tables.{countOf, segmentAt}
-use Rattle.decoding.specs.Decoding.{wayIn, decoded}
+use Rattle.decoding.specs.Decoding.{routeByteIn, decoded}
 use Rattle.reading.specs.Verdict.{verdict, accepted, readingOf}
 use Rattle.view.specs.View.{routeStart, shown, viewStart, viewCount, viewed}
 use Rattle.reading.proofs.Accepted.{accepted-iff, number-zero, file-consistent}
@@ -27,12 +27,12 @@ unfolding block
 byte-in-block file k i h = getD-take blockSize (drop (blockSize * k) file) i 0 h ∙ getD-drop (blockSize * k) file i 0
 
 -- byte p of route record r, the count at 0, is byte p after the record's start in the file
-way-byte : (file : List ℕ) (r p : ℕ) → 1 ≤ r → r ≤ mostRoutes → p < 32 → at (decoded file .ways) (32 * r - 31 + p) ≡ byteAt file (routeStart r + p)
-unfolding decoded wayIn
-way-byte file r p low high small =
+route-byte : (file : List ℕ) (r p : ℕ) → 1 ≤ r → r ≤ mostRoutes → p < 32 → at (decoded file .routebytes) (32 * r - 31 + p) ≡ byteAt file (routeStart r + p)
+unfolding decoded routeByteIn
+route-byte file r p low high small =
     let k = 32 * r - 31 + p in
     let e : 512 * (3 + (k - 1) / 480) + (k - 1) % 480 ≡ routeStart r + p = omega arith in
-    nth-tabulate 0 960 (wayIn file) k (omega arith) (omega arith)
+    nth-tabulate 0 960 (routeByteIn file) k (omega arith) (omega arith)
     ∙ byte-in-block file (3 + (k - 1) / 480) ((k - 1) % 480) (omega arith)
     ∙ ap (λ (i : ℕ). byteAt file i) e
 
@@ -45,7 +45,7 @@ pub record Shown (file : List ℕ) (r : ℕ) : Type 0 where
   pub most : r ≤ mostRoutes
   pub some : 1 ≤ byteAt file (routeStart r)
   pub short : byteAt file (routeStart r) ≤ longestRoute
-  pub counts : countOf (decoded file .ways) r ≡ byteAt file (routeStart r)
+  pub counts : countOf (decoded file .routebytes) r ≡ byteAt file (routeStart r)
 
 pub shown-facts : (file : List ℕ) (r : ℕ) → shown file r ≡ true → Shown file r
 unfolding shown countOf
@@ -57,7 +57,7 @@ shown-facts file r h =
     let most : r ≤ mostRoutes = omega (arith, c .routes .1) in
     let e : 32 * r - 31 + 0 ≡ 32 * r - 31 = omega arith in
     let g : routeStart r + 0 ≡ routeStart r = omega arith in
-    let counts : at (decoded file .ways) (32 * r - 31) ≡ byteAt file (routeStart r) = rw (e, g) at (way-byte file r 0 low most (omega arith)) in
+    let counts : at (decoded file .routebytes) (32 * r - 31) ≡ byteAt file (routeStart r) = rw (e, g) at (route-byte file r 0 low most (omega arith)) in
     record {
       isAccepted = f .0 .0;
       size = accepted-iff file .0 (f .0 .0) .size;
@@ -79,22 +79,22 @@ module _ (file : List ℕ) (r : ℕ) where
   view-off h = rw h (refl, refl)
 
   -- THE CLAIM: the view lists the route's segments
-  pub view-lists : shown file r ≡ true → viewed file r ≡ tabulate (countOf (decoded file .ways) r) (segmentAt (decoded file .ways) r)
+  pub view-lists : shown file r ≡ true → viewed file r ≡ tabulate (countOf (decoded file .routebytes) r) (segmentAt (decoded file .routebytes) r)
   unfolding segmentAt
   view-lists h =
       let s = shown-facts file r h in
       let v = view-on h in
-      let n = countOf (decoded file .ways) r in
+      let n = countOf (decoded file .routebytes) r in
       let part = take n (drop (routeStart r + 1) file) in
       let long : length part ≡ n = simp (length-take, length-drop) (omega (arith, s .size, s .counts, s .short, s .most, s .low)) in
       rw (v .0, v .1, ← (s .counts))
-      (ext-getD 0 part (tabulate n (segmentAt (decoded file .ways) r)) (long ∙ sym (length-tabulate n (segmentAt (decoded file .ways) r)))
+      (ext-getD 0 part (tabulate n (segmentAt (decoded file .routebytes) r)) (long ∙ sym (length-tabulate n (segmentAt (decoded file .routebytes) r)))
       (λ i below.
       let e : routeStart r + 1 + i ≡ routeStart r + (i + 1) = omega arith in
       getD-take n (drop (routeStart r + 1) file) i 0 (omega arith) ∙ getD-drop (routeStart r + 1) file i 0 ∙ ap (λ (k : ℕ). byteAt file k) e
-      ∙ sym (way-byte file r (i + 1) (s .low) (s .most) (omega (arith, s .counts, s .short)))
-      ∙ sym (nth-tabulate 0 n (segmentAt (decoded file .ways) r) (i + 1) (omega arith) (omega arith))
-      ∙ nth-index 0 (tabulate n (segmentAt (decoded file .ways) r)) i))
+      ∙ sym (route-byte file r (i + 1) (s .low) (s .most) (omega (arith, s .counts, s .short)))
+      ∙ sym (nth-tabulate 0 n (segmentAt (decoded file .routebytes) r) (i + 1) (omega arith) (omega arith))
+      ∙ nth-index 0 (tabulate n (segmentAt (decoded file .routebytes) r)) i))
 
   -- where no route is shown, the file is refused or the number is not 1 to R; and the reverse
   shows : accepted file ≡ true → 1 ≤ r → r ≤ decoded file .routes → shown file r ≡ true
@@ -120,7 +120,7 @@ module _ (file : List ℕ) (r : ℕ) where
         (λ h.
         let s = shown-facts file r h in
         let l = ap length (sym e ∙ view-lists h) in
-        absurd (omega (arith, length-tabulate (countOf (decoded file .ways) r) (segmentAt (decoded file .ways) r), s .counts, s .some)))
+        absurd (omega (arith, length-tabulate (countOf (decoded file .routebytes) r) (segmentAt (decoded file .routebytes) r), s .counts, s .some)))
         hidden,
     λ w. let v = view-off (hides w) in rw (v .0, v .1),
   )

@@ -12,14 +12,14 @@ byte-requires c κs = search needs
 byte-requires-2 : tie.Need-byte-requires-2
 byte-requires-2 c κs = search needs
 
-half-at-requires : tie.Need-half-at-requires
-half-at-requires c κs = search needs
+two-at-requires : tie.Need-two-at-requires
+two-at-requires c κs = search needs
 
-half-at-requires-2 : tie.Need-half-at-requires-2
-half-at-requires-2 c κs = search needs
+two-at-requires-2 : tie.Need-two-at-requires-2
+two-at-requires-2 c κs = search needs
 
-word-at-requires : tie.Need-word-at-requires
-word-at-requires c κs = search needs
+four-at-requires : tie.Need-four-at-requires
+four-at-requires c κs = search needs
 
 lengths-of-requires : tie.Need-lengths-of-requires
 lengths-of-requires c κs = search needs
@@ -36,8 +36,8 @@ links-of-requires-2 c κs = search needs
 flags-of-requires : tie.Need-flags-of-requires
 flags-of-requires c κs = search needs
 
-ways-of-requires : tie.Need-ways-of-requires
-ways-of-requires c κs = search needs
+routebytes-of-requires : tie.Need-routebytes-of-requires
+routebytes-of-requires c κs = search needs
 
 returns : tie.Need-returns
 unfolding decoded
@@ -45,16 +45,16 @@ returns c =
     simp (
       c .before .before .before .before .before .before .before .before .before .before .byte .ensures,
       c .before .before .before .before .before .before .before .before .before .byte2 .ensures,
-      c .before .before .before .before .before .before .before .before .half-at .ensures,
-      c .before .before .before .before .before .before .before .half-at2 .ensures,
-      c .before .before .before .before .before .before .word-at .ensures,
+      c .before .before .before .before .before .before .before .before .two-at .ensures,
+      c .before .before .before .before .before .before .before .two-at2 .ensures,
+      c .before .before .before .before .before .before .four-at .ensures,
       c .before .before .before .before .before .before .before .before .before .before .before .block-of .ensures .0,
       c .before .before .before .before .before .lengths-of .ensures,
       c .before .before .before .before .limits-of .ensures,
       c .before .before .before .links-of .ensures,
       c .before .before .links-of2 .ensures,
       c .before .flags-of .ensures,
-      c .ways-of .ensures,
+      c .routebytes-of .ensures,
     )
 
 pub decode-spec : {M : Type 1} → statement M
@@ -64,13 +64,13 @@ decode-spec =
     block-of-requires
     byte-requires
     byte-requires-2
-    half-at-requires
-    half-at-requires-2
-    word-at-requires
+    two-at-requires
+    two-at-requires-2
+    four-at-requires
     lengths-of-requires
     limits-of-requires
     links-of-requires
     links-of-requires-2
     flags-of-requires
-    ways-of-requires
+    routebytes-of-requires
     returns)

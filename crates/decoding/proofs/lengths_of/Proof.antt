@@ -21,8 +21,8 @@ segment-block-requires c κs = search needs
 segment-start-requires : tie.Need-segment-start-requires Inv-loop μ-loop
 segment-start-requires c κs = search needs
 
-word-at-requires : tie.Need-word-at-requires Inv-loop μ-loop
-word-at-requires c κs = search needs
+four-at-requires : tie.Need-four-at-requires Inv-loop μ-loop
+four-at-requires c κs = search needs
 
 mul-lengths : tie.Need-mul-lengths Inv-loop μ-loop
 mul-lengths c = omega arith
@@ -40,7 +40,7 @@ loop-again : tie.Need-loop-again Inv-loop μ-loop
 unfolding lengthIn
 loop-again c =
     table-more (c .before .before .before .before .loop .inv) (c .before .before .before .loop-test .taken)
-    (simp (c .word-at .ensures, c .before .before .segment-block .ensures, c .before .segment-start .ensures))
+    (simp (c .four-at .ensures, c .before .before .segment-block .ensures, c .before .segment-start .ensures))
 
 returns : tie.Need-returns Inv-loop μ-loop
 returns c = table-over (c .before .loop .inv) (c .loop-test .left)
@@ -54,7 +54,7 @@ lengths-of-spec =
     loop-holds
     segment-block-requires
     segment-start-requires
-    word-at-requires
+    four-at-requires
     mul-lengths
     array-write-lengths
     add-i

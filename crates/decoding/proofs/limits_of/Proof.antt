@@ -21,11 +21,11 @@ segment-block-requires c κs = search needs
 segment-start-requires : tie.Need-segment-start-requires Inv-loop μ-loop
 segment-start-requires c κs = search needs
 
-add-half-at : tie.Need-add-half-at Inv-loop μ-loop
-add-half-at c = omega arith
+add-two-at : tie.Need-add-two-at Inv-loop μ-loop
+add-two-at c = omega arith
 
-half-at-requires : tie.Need-half-at-requires Inv-loop μ-loop
-half-at-requires c κs = search needs
+two-at-requires : tie.Need-two-at-requires Inv-loop μ-loop
+two-at-requires c κs = search needs
 
 mul-limits : tie.Need-mul-limits Inv-loop μ-loop
 mul-limits c = omega arith
@@ -43,7 +43,7 @@ loop-again : tie.Need-loop-again Inv-loop μ-loop
 unfolding limitIn
 loop-again c =
     table-more (c .before .before .before .before .loop .inv) (c .before .before .before .loop-test .taken)
-    (simp (c .half-at .ensures, c .before .before .segment-block .ensures, c .before .segment-start .ensures))
+    (simp (c .two-at .ensures, c .before .before .segment-block .ensures, c .before .segment-start .ensures))
 
 returns : tie.Need-returns Inv-loop μ-loop
 returns c = table-over (c .before .loop .inv) (c .loop-test .left)
@@ -57,8 +57,8 @@ limits-of-spec =
     loop-holds
     segment-block-requires
     segment-start-requires
-    add-half-at
-    half-at-requires
+    add-two-at
+    two-at-requires
     mul-limits
     array-write-limits
     add-i

@@ -12,10 +12,10 @@ use Rattle.input.proofs.first_unknown.Statement.{statement}
 use Rattle.input.proofs.first_unknown.Tie as tie
 
 abbrev Inv-loop : tie.InvT-loop
-Inv-loop words records k₀ k = Scanned (length words / 32) (kindKnown words) k
+Inv-loop items records k₀ k = Scanned (length items / 32) (kindKnown items) k
 
 abbrev μ-loop : tie.MeasureT-loop
-μ-loop words records k₀ k = records - k
+μ-loop items records k₀ k = records - k
 
 loop-holds : tie.Need-loop-holds Inv-loop μ-loop
 loop-holds c = scan-begin
@@ -35,7 +35,7 @@ add-result c = omega arith
 here :
     (c : tie.After-entry-u16 Inv-loop μ-loop)
     → let kind = c .entry-u16 .result in
-    (leb 1 kind && leb kind 6) ≡ kindKnown (now (c .before .before .before .before .args .words)) (c .before .before .loop .k + 1)
+    (leb 1 kind && leb kind 6) ≡ kindKnown (now (c .before .before .before .before .args .items)) (c .before .before .loop .k + 1)
 unfolding kindKnown
 here c =
     let k = c .before .before .loop .k in

@@ -19,12 +19,12 @@ sub-entry-u16 c = search needs
 
 mul-entry-u16 : tie.Need-mul-entry-u16
 mul-entry-u16 c =
-    let w = now (c .before .before .before .args .words) in
+    let w = now (c .before .before .before .args .items) in
     omega (arith, c .before .first-unknown .ensures, failing-le (kindKnown w) (length w / 32))
 
 add-entry-u16 : tie.Need-add-entry-u16
 add-entry-u16 c =
-    let w = now (c .before .before .before .args .words) in
+    let w = now (c .before .before .before .args .items) in
     omega (arith, c .before .first-unknown .ensures, failing-le (kindKnown w) (length w / 32))
 
 entry-u16-requires : tie.Need-entry-u16-requires

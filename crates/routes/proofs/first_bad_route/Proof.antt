@@ -7,10 +7,10 @@ use Rattle.routes.proofs.first_bad_route.Statement.{statement}
 use Rattle.routes.proofs.first_bad_route.Tie as tie
 
 abbrev Inv-loop : tie.InvT-loop
-Inv-loop next ways n routes i₀ i = Scanned mostRoutes (routeIn next ways n routes) i
+Inv-loop next routebytes n routes i₀ i = Scanned mostRoutes (routeIn next routebytes n routes) i
 
 abbrev μ-loop : tie.MeasureT-loop
-μ-loop next ways n routes i₀ i = mostRoutes - i
+μ-loop next routebytes n routes i₀ i = mostRoutes - i
 
 loop-holds : tie.Need-loop-holds Inv-loop μ-loop
 loop-holds c = scan-begin

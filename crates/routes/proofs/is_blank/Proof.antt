@@ -9,16 +9,16 @@ use Rattle.routes.proofs.is_blank.Statement.{statement}
 use Rattle.routes.proofs.is_blank.Tie as tie
 
 abbrev Inv-loop : tie.InvT-loop
-Inv-loop ways r blank₀ p₀ blank p = (p ≤ longestRoute + 1) × (blank ≡ every p (blankIn ways r))
+Inv-loop routebytes r blank₀ p₀ blank p = (p ≤ longestRoute + 1) × (blank ≡ every p (blankIn routebytes r))
 
 abbrev μ-loop : tie.MeasureT-loop
-μ-loop ways r blank₀ p₀ blank p = longestRoute + 1 - p
+μ-loop routebytes r blank₀ p₀ blank p = longestRoute + 1 - p
 
 loop-holds : tie.Need-loop-holds Inv-loop μ-loop
 loop-holds c = (omega arith, sym (every-none _))
 
-way-byte-requires : tie.Need-way-byte-requires Inv-loop μ-loop
-way-byte-requires c κs = omega arith
+route-byte-requires : tie.Need-route-byte-requires Inv-loop μ-loop
+route-byte-requires c κs = omega arith
 
 add-p : tie.Need-add-p Inv-loop μ-loop
 add-p c = omega arith
@@ -30,10 +30,10 @@ loop-again : tie.Need-loop-again Inv-loop μ-loop
 loop-again c =
     let l = c .before .before .loop in
     let e : l .p + 1 - 1 ≡ l .p = omega arith in
-    (omega arith, rw (every-next, e, c .way-byte .ensures, l .inv .1))
+    (omega arith, rw (every-next, e, c .route-byte .ensures, l .inv .1))
 
 returns : tie.Need-returns Inv-loop μ-loop
 returns c = let l = c .before .loop in let e : l .p ≡ longestRoute + 1 = omega arith in rw e at (l .inv .1)
 
 pub is-blank-spec : {M : Type 1} → statement M
-is-blank-spec = tie.close (tie.spec Inv-loop μ-loop loop-holds way-byte-requires add-p loop-less loop-again returns)
+is-blank-spec = tie.close (tie.spec Inv-loop μ-loop loop-holds route-byte-requires add-p loop-less loop-again returns)

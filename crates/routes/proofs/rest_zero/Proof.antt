@@ -11,25 +11,25 @@ use Rattle.routes.proofs.rest_zero.Statement.{statement}
 use Rattle.routes.proofs.rest_zero.Tie as tie
 
 abbrev Inv-loop : tie.InvT-loop
-Inv-loop ways r count p₀ p = (count ≤ p) × (every p (restIn ways r count) ≡ true)
+Inv-loop routebytes r count p₀ p = (count ≤ p) × (every p (restIn routebytes r count) ≡ true)
 
 abbrev μ-loop : tie.MeasureT-loop
-μ-loop ways r count p₀ p = longestRoute - p
+μ-loop routebytes r count p₀ p = longestRoute - p
 
 loop-holds : tie.Need-loop-holds Inv-loop μ-loop
 loop-holds c = (omega arith, rest-upto _ _ _)
 
-add-way-byte : tie.Need-add-way-byte Inv-loop μ-loop
-add-way-byte c = omega arith
+add-route-byte : tie.Need-add-route-byte Inv-loop μ-loop
+add-route-byte c = omega arith
 
-way-byte-requires : tie.Need-way-byte-requires Inv-loop μ-loop
-way-byte-requires c κs = omega arith
+route-byte-requires : tie.Need-route-byte-requires Inv-loop μ-loop
+route-byte-requires c κs = omega arith
 
 returns : tie.Need-returns Inv-loop μ-loop
 returns c =
     let l = c .before .before .before .loop in
     let a = c .before .before .before .before .args in
-    let bad = rest-other (now (a .ways)) (a .r) (a .count) (l .p + 1) (omega arith) (λ e. c .if1 .taken (c .before .way-byte .ensures ∙ e)) in
+    let bad = rest-other (now (a .routebytes)) (a .r) (a .count) (l .p + 1) (omega arith) (λ e. c .if1 .taken (c .before .route-byte .ensures ∙ e)) in
     sym (every-fails _ longestRoute (l .p + 1) (omega arith) (omega arith) bad)
 
 add-p : tie.Need-add-p Inv-loop μ-loop
@@ -40,11 +40,11 @@ loop-less c = omega arith
 
 loop-again : tie.Need-loop-again Inv-loop μ-loop
 loop-again c =
-    (omega arith, every-more _ _ (c .before .before .before .loop .inv .1) (rest-zero _ _ _ _ (sym (c .before .way-byte .ensures) ∙ c .if1 .left)))
+    (omega arith, every-more _ _ (c .before .before .before .loop .inv .1) (rest-zero _ _ _ _ (sym (c .before .route-byte .ensures) ∙ c .if1 .left)))
 
 returns-2 : tie.Need-returns-2 Inv-loop μ-loop
 returns-2 c =
     let l = c .before .loop in sym (every-all _ longestRoute (λ k low high. every-at _ (l .p) (l .inv .1) k low (omega arith)))
 
 pub rest-zero-spec : {M : Type 1} → statement M
-rest-zero-spec = tie.close (tie.spec Inv-loop μ-loop loop-holds add-way-byte way-byte-requires returns add-p loop-less loop-again returns-2)
+rest-zero-spec = tie.close (tie.spec Inv-loop μ-loop loop-holds add-route-byte route-byte-requires returns add-p loop-less loop-again returns-2)

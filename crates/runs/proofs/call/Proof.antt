@@ -6,17 +6,17 @@ use Rattle.runs.specs.Script.{callOf}
 use Rattle.runs.proofs.call.Statement.{statement}
 use Rattle.runs.proofs.call.Tie as tie
 
-word-at-requires : tie.Need-word-at-requires
-word-at-requires c κs = search needs
+item-at-requires : tie.Need-item-at-requires
+item-at-requires c κs = search needs
 
-word-at-requires-2 : tie.Need-word-at-requires-2
-word-at-requires-2 c κs = search needs
+item-at-requires-2 : tie.Need-item-at-requires-2
+item-at-requires-2 c κs = search needs
 
-word-at-requires-3 : tie.Need-word-at-requires-3
-word-at-requires-3 c κs = search needs
+item-at-requires-3 : tie.Need-item-at-requires-3
+item-at-requires-3 c κs = search needs
 
-word-at-requires-4 : tie.Need-word-at-requires-4
-word-at-requires-4 c κs = search needs
+item-at-requires-4 : tie.Need-item-at-requires-4
+item-at-requires-4 c κs = search needs
 
 enter-requires : tie.Need-enter-requires
 enter-requires c κs = search needs
@@ -44,35 +44,35 @@ unfolding called callOf
 returns c =
     let m = c .before .before .before in
     let w = m .before .before in
-    simp (sym (w .word-at .ensures) ∙ m .match .keys1, c .enter .ensures, c .before .word-at4 .ensures, c .before .before .word-at3 .ensures, m .before .word-at2 .ensures)
+    simp (sym (w .item-at .ensures) ∙ m .match .keys1, c .enter .ensures, c .before .item-at4 .ensures, c .before .before .item-at3 .ensures, m .before .item-at2 .ensures)
 
 returns-2 : tie.Need-returns-2
 unfolding called callOf
 returns-2 c =
     let m = c .before in
     let w = m .before .before in
-    simp (sym (w .word-at .ensures) ∙ m .match .keys2, c .leave .ensures, m .before .word-at2 .ensures)
+    simp (sym (w .item-at .ensures) ∙ m .match .keys2, c .leave .ensures, m .before .item-at2 .ensures)
 
 returns-3 : tie.Need-returns-3
 unfolding called callOf
 returns-3 c =
     let m = c .before .before in
     let w = m .before .before in
-    simp (sym (w .word-at .ensures) ∙ m .match .keys3, c .speed .ensures, c .before .wishes-of .ensures)
+    simp (sym (w .item-at .ensures) ∙ m .match .keys3, c .speed .ensures, c .before .wishes-of .ensures)
 
 returns-4 : tie.Need-returns-4
 unfolding called callOf
 returns-4 c =
     let m = c .before in
     let w = m .before .before in
-    simp (sym (w .word-at .ensures) ∙ m .match .keys4, c .request .ensures)
+    simp (sym (w .item-at .ensures) ∙ m .match .keys4, c .request .ensures)
 
 returns-5 : tie.Need-returns-5
 unfolding called callOf
 returns-5 c =
     let m = c .before in
     let w = m .before .before in
-    simp (sym (w .word-at .ensures) ∙ m .match .keys5, c .grant .ensures)
+    simp (sym (w .item-at .ensures) ∙ m .match .keys5, c .grant .ensures)
 
 returns-6 : tie.Need-returns-6
 unfolding called callOf
@@ -80,16 +80,16 @@ returns-6 c =
     let m = c .before in
     let w = m .before .before in
     let n = m .match .rest in
-    simp (sym (w .word-at .ensures), ne-eqb _ 5 (n .1), ne-eqb _ 4 (n .0 .1), ne-eqb _ 3 (n .0 .0 .1), ne-eqb _ 2 (n .0 .0 .0 .1), ne-eqb _ 1 (n .0 .0 .0 .0 .1), c .position .ensures)
+    simp (sym (w .item-at .ensures), ne-eqb _ 5 (n .1), ne-eqb _ 4 (n .0 .1), ne-eqb _ 3 (n .0 .0 .1), ne-eqb _ 2 (n .0 .0 .0 .1), ne-eqb _ 1 (n .0 .0 .0 .0 .1), c .position .ensures)
 
 pub call-spec : {M : Type 1} → statement M
 call-spec =
     tie.close
     (tie.spec
-    word-at-requires
-    word-at-requires-2
-    word-at-requires-3
-    word-at-requires-4
+    item-at-requires
+    item-at-requires-2
+    item-at-requires-3
+    item-at-requires-4
     enter-requires
     leave-requires
     wishes-of-requires

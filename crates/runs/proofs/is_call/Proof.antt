@@ -3,12 +3,12 @@ use Rattle.runs.specs.Script.{isCall}
 use Rattle.runs.proofs.is_call.Statement.{statement}
 use Rattle.runs.proofs.is_call.Tie as tie
 
-word-at-requires : tie.Need-word-at-requires
-word-at-requires c κs = search needs
+item-at-requires : tie.Need-item-at-requires
+item-at-requires c κs = search needs
 
 returns : tie.Need-returns
 unfolding isCall
-returns c = simp (c .word-at .ensures)
+returns c = simp (c .item-at .ensures)
 
 pub is-call-spec : {M : Type 1} → statement M
-is-call-spec = tie.close (tie.spec word-at-requires returns)
+is-call-spec = tie.close (tie.spec item-at-requires returns)

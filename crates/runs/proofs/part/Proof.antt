@@ -31,7 +31,7 @@ part-result-end c = search needs
 returns : tie.Need-returns
 returns c =
     let a = c .before .before .args in
-    none (now (a .words)) (a .start) (a .count) (c .before .if1 .taken)
+    none (now (a .items)) (a .start) (a .count) (c .before .if1 .taken)
 
 sub-if2 : tie.Need-sub-if2
 sub-if2 c = search needs
@@ -51,7 +51,7 @@ part-result-end-2 c = search needs
 returns-2 : tie.Need-returns-2
 returns-2 c =
     let a = c .before .before .before .args in
-    rest (now (a .words)) (a .start) (a .count) (c .before .if2 .taken)
+    rest (now (a .items)) (a .start) (a .count) (c .before .if2 .taken)
 
 add-result : tie.Need-add-result
 add-result c = search needs
@@ -71,7 +71,7 @@ part-result-end-3 c = search needs
 returns-3 : tie.Need-returns-3
 returns-3 c =
     let a = c .before .before .before .args in
-    ap (λ (k : ℕ). take k (drop (a .start) (now (a .words)))) (add-sub-cancel-left (a .start) (a .count))
+    ap (λ (k : ℕ). take k (drop (a .start) (now (a .items)))) (add-sub-cancel-left (a .start) (a .count))
 
 pub part-spec : {M : Type 1} → statement M
 part-spec =

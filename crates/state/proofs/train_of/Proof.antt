@@ -21,17 +21,17 @@ add-byte c = search needs
 byte-requires-2 : tie.Need-byte-requires-2
 byte-requires-2 c κs = search needs
 
-add-word-at : tie.Need-add-word-at
-add-word-at c = search needs
+add-four-at : tie.Need-add-four-at
+add-four-at c = search needs
 
-word-at-requires : tie.Need-word-at-requires
-word-at-requires c κs = search needs
+four-at-requires : tie.Need-four-at-requires
+four-at-requires c κs = search needs
 
-add-half-at : tie.Need-add-half-at
-add-half-at c = search needs
+add-two-at : tie.Need-add-two-at
+add-two-at c = search needs
 
-half-at-requires : tie.Need-half-at-requires
-half-at-requires c κs = search needs
+two-at-requires : tie.Need-two-at-requires
+two-at-requires c κs = search needs
 
 add-byte-2 : tie.Need-add-byte-2
 add-byte-2 c = search needs
@@ -44,7 +44,7 @@ returns c =
     let h = c .before in
     let w = h .before in
     let p = w .before in
-    simp (p .before .byte .ensures, p .byte2 .ensures, w .word-at .ensures, h .half-at .ensures, c .byte3 .ensures) (train-read _ _)
+    simp (p .before .byte .ensures, p .byte2 .ensures, w .four-at .ensures, h .two-at .ensures, c .byte3 .ensures) (train-read _ _)
 
 pub train-of-spec : {M : Type 1} → statement M
 train-of-spec =
@@ -56,10 +56,10 @@ train-of-spec =
     byte-requires
     add-byte
     byte-requires-2
-    add-word-at
-    word-at-requires
-    add-half-at
-    half-at-requires
+    add-four-at
+    four-at-requires
+    add-two-at
+    two-at-requires
     add-byte-2
     byte-requires-3
     returns)

@@ -36,7 +36,7 @@ returns c =
     let e = c .before .before .before .view-of .ensures in
     let p = c .before .before .before .view-of .result in
     let m : p .start + p .count - p .start ≡ p .count = omega arith in
-    record { bytes = rw (← (e .0), ← (e .1), m); block = refl; offset = rw (← (e .0)) }
+    record { bytes = rw (← (e .0), ← (e .1), m); object = refl; offset = rw (← (e .0)) }
 
 pub route-view-spec : {M : Type 1} → statement M
 route-view-spec =

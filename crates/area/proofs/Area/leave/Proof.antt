@@ -19,7 +19,7 @@ use Rattle.area.proofs.Area.leave.Tie as tie
 
 -- x is the train as the code found it, y the train itself
 exit-found :
-    (T : Tables) {x y : Train} {own last flags : ℕ} → x ≡ y → own ≡ ownOf T x → last ≡ countOf (T .ways) (x .route) → flags ≡ at (T .flags) own
+    (T : Tables) {x y : Train} {own last flags : ℕ} → x ≡ y → own ≡ ownOf T x → last ≡ countOf (T .routebytes) (x .route) → flags ≡ at (T .flags) own
     → (eqb (x .place) last && eqb (flags / 2) 1) ≡ (isLast T y && isExit T (ownOf T y))
 exit-found T e o l f = rw (f, o, l, e)
 

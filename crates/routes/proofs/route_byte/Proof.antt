@@ -5,8 +5,8 @@ use borrow.Author.Needs.{needs}
 use denote.Ref.{now}
 use Rattle.lists.proofs.Numbered.{nth-in}
 use Rattle.tables.specs.Tables.{segmentAt}
-use Rattle.routes.proofs.way_byte.Statement.{statement}
-use Rattle.routes.proofs.way_byte.Tie as tie
+use Rattle.routes.proofs.route_byte.Statement.{statement}
+use Rattle.routes.proofs.route_byte.Tie as tie
 
 mul-result : tie.Need-mul-result
 mul-result c = search needs
@@ -25,7 +25,7 @@ unfolding segmentAt
 returns c =
     let a = c .before .args in
     let e : 32 * a .r - 31 + a .p - 1 ≡ 32 * a .r - 32 + a .p = omega arith in
-    sym (rw e at (nth-in 0 (now (a .ways)) (32 * a .r - 31 + a .p) (omega arith)))
+    sym (rw e at (nth-in 0 (now (a .routebytes)) (32 * a .r - 31 + a .p) (omega arith)))
 
-pub way-byte-spec : {M : Type 1} → statement M
-way-byte-spec = tie.close (tie.spec mul-result sub-result add-result element-copy-out-result returns)
+pub route-byte-spec : {M : Type 1} → statement M
+route-byte-spec = tie.close (tie.spec mul-result sub-result add-result element-copy-out-result returns)

@@ -2,16 +2,16 @@ use Prim.Native.Nat.{_+_, _-_}
 use mathlib.Core.Path.{_≡_}
 use native.Mathlib.Omega.{arith}
 use borrow.Author.Needs.{needs}
-use Rattle.decoding.specs.Decoding.{wayIn}
+use Rattle.decoding.specs.Decoding.{routeByteIn}
 use Rattle.lists.proofs.Loops.{Tabled, table-begin, table-more, table-over}
-use Rattle.decoding.proofs.ways_of.Statement.{statement}
-use Rattle.decoding.proofs.ways_of.Tie as tie
+use Rattle.decoding.proofs.routebytes_of.Statement.{statement}
+use Rattle.decoding.proofs.routebytes_of.Tie as tie
 
 abbrev Inv-loop : tie.InvT-loop
-Inv-loop file ways₀ i₀ ways i = Tabled 960 (wayIn file) i ways
+Inv-loop file routebytes₀ i₀ routebytes i = Tabled 960 (routeByteIn file) i routebytes
 
 abbrev μ-loop : tie.MeasureT-loop
-μ-loop file ways₀ i₀ ways i = 960 - i
+μ-loop file routebytes₀ i₀ routebytes i = 960 - i
 
 loop-holds : tie.Need-loop-holds Inv-loop μ-loop
 loop-holds c = table-begin
@@ -25,8 +25,8 @@ block-of-requires c κs = search needs
 byte-requires : tie.Need-byte-requires Inv-loop μ-loop
 byte-requires c κs = search needs
 
-array-write-ways : tie.Need-array-write-ways Inv-loop μ-loop
-array-write-ways c = omega arith
+array-write-routebytes : tie.Need-array-write-routebytes Inv-loop μ-loop
+array-write-routebytes c = omega arith
 
 add-i : tie.Need-add-i Inv-loop μ-loop
 add-i c = omega arith
@@ -35,7 +35,7 @@ loop-less : tie.Need-loop-less Inv-loop μ-loop
 loop-less c = omega arith
 
 loop-again : tie.Need-loop-again Inv-loop μ-loop
-unfolding wayIn
+unfolding routeByteIn
 loop-again c =
     let i = c .before .before .before .loop .i in
     let e : i + 1 - 1 ≡ i = omega arith in
@@ -45,8 +45,8 @@ loop-again c =
 returns : tie.Need-returns Inv-loop μ-loop
 returns c = table-over (c .before .loop .inv) (c .loop-test .left)
 
-pub ways-of-spec : {M : Type 1} → statement M
-ways-of-spec =
+pub routebytes-of-spec : {M : Type 1} → statement M
+routebytes-of-spec =
     tie.close
     (tie.spec
     Inv-loop
@@ -55,7 +55,7 @@ ways-of-spec =
     add-block-of
     block-of-requires
     byte-requires
-    array-write-ways
+    array-write-routebytes
     add-i
     loop-less
     loop-again

@@ -1,8 +1,8 @@
 use native.Mathlib.Nat.{add-assoc}
 use native.Mathlib.Omega.{arith}
 use borrow.Author.Needs.{needs}
-use Rattle.file.proofs.word_at.Statement.{statement}
-use Rattle.file.proofs.word_at.Tie as tie
+use Rattle.file.proofs.four_at.Statement.{statement}
+use Rattle.file.proofs.four_at.Tie as tie
 
 byte-requires : tie.Need-byte-requires
 byte-requires c κs = search needs
@@ -60,8 +60,8 @@ returns c =
     simp (c .before .before .before .byte .ensures, c .before .before .byte2 .ensures, c .before .byte3 .ensures, c .byte4 .ensures, add-assoc)
     (omega arith)
 
-pub word-at-spec : {M : Type 1} → statement M
-word-at-spec =
+pub four-at-spec : {M : Type 1} → statement M
+four-at-spec =
     tie.close
     (tie.spec
     byte-requires

@@ -2,8 +2,8 @@ use denote.Ref.{now}
 use mathlib.Core.Path.{sym}
 use lib.ListN.{List·getD-eq-default}
 use borrow.Author.Needs.{needs}
-use Rattle.runs.proofs.word_at.Statement.{statement}
-use Rattle.runs.proofs.word_at.Tie as tie
+use Rattle.runs.proofs.item_at.Statement.{statement}
+use Rattle.runs.proofs.item_at.Tie as tie
 
 mul-result : tie.Need-mul-result
 mul-result c = search needs
@@ -15,7 +15,7 @@ returns : tie.Need-returns
 returns c = search needs
 
 returns-2 : tie.Need-returns-2
-returns-2 c = sym (List·getD-eq-default (now (c .before .args .words)) 0 (c .if1 .left))
+returns-2 c = sym (List·getD-eq-default (now (c .before .args .items)) 0 (c .if1 .left))
 
-pub word-at-spec : {M : Type 1} → statement M
-word-at-spec = tie.close (tie.spec mul-result shared-slice-read-result returns returns-2)
+pub item-at-spec : {M : Type 1} → statement M
+item-at-spec = tie.close (tie.spec mul-result shared-slice-read-result returns returns-2)
