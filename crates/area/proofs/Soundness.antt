@@ -13,11 +13,11 @@ use Rattle.lists.proofs.Numbered.{nth-zero, nth-out}
 use Rattle.tables.specs.Bounds.{mostSegments}
 use Rattle.tables.proofs.Consistency.{consistent, meets-iff}
 use Rattle.trains.specs.Train.{mostTrains, off, trainAt, ownOf, holdsIn}
-use Rattle.trains.specs.Steps.{low, upperEnd}
+use Rattle.trains.specs.Cycle.{low, upperEnd}
 use Rattle.trains.specs.Sound.{trainSound, allocationSound}
 use Rattle.trains.proofs.Safety.{own-is, low-high}
 use Rattle.trains.proofs.Soundness.{train-iff, off-iff, allocation-iff}
-use Rattle.moves.specs.Room.{Room}
+use Rattle.cycle.specs.Room.{Room}
 use Rattle.area.specs.declared.Area.{Area}
 use Rattle.area.specs.Sound.{sound}
 use Rattle.area.specs.SoundFacts.{SoundArea}

@@ -10,7 +10,9 @@ use Rattle.lists.specs.Tests.{Test, _⇒_, firstOf}
 use Rattle.tables.specs.declared.Tables.{Tables}
 use Rattle.summary.specs.Summary.{summaryOf}
 use Rattle.trains.specs.Train.{mostTrains, off, entered, trainAt, isOn, ownOf}
-use Rattle.trains.specs.Steps.{sped, requested, granted, calmed, moved, freed, firstSegment, takenBy, freedBy, becomes, isEntry, isExit, isLast}
+use Rattle.trains.specs.Cycle.{sped, requested, moved, freed}
+use Rattle.trains.specs.Grant.{granted, calmed}
+use Rattle.trains.specs.EnterLeave.{firstSegment, takenBy, freedBy, becomes, isEntry, isExit, isLast}
 use Rattle.area.specs.declared.Area.{Area}
 use Rattle.area.specs.declared.Outcome.{Outcome}
 use Rattle.area.specs.declared.Report.{Report}

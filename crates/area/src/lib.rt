@@ -67,9 +67,9 @@ fn enter_route(area: Area, t: u8, route: u16, speed: u16) -> Outcome
         return refused(area, 19);
     }
     let before = area.trains;
-    let allocations = moves::taken_all(held, first, t);
+    let allocations = enter_leave::taken_all(held, first, t);
     let entered = trains::entered_train(r, speed);
-    let trains = moves::with_train(before, t, entered);
+    let trains = enter_leave::with_train(before, t, entered);
     done(Area {
         tables,
         allocations,
@@ -140,9 +140,9 @@ impl Area {
             return refused(self, 20);
         }
         let held = self.allocations;
-        let allocations = moves::freed_all(held, t);
+        let allocations = enter_leave::freed_all(held, t);
         let off = trains::train_off();
-        let trains = moves::with_train(before, t, off);
+        let trains = enter_leave::with_train(before, t, off);
         done(Area {
             tables,
             allocations,
@@ -166,7 +166,7 @@ impl Area {
         let tables = self.tables;
         let allocations = self.allocations;
         let before = self.trains;
-        let trains = steps::sped_all(tables, allocations, wishes, before);
+        let trains = cycle::sped_all(tables, allocations, wishes, before);
         done(Area {
             tables,
             allocations,
@@ -187,7 +187,7 @@ impl Area {
         let tables = self.tables;
         let allocations = self.allocations;
         let before = self.trains;
-        let trains = steps::requested_all(tables, allocations, before);
+        let trains = cycle::requested_all(tables, allocations, before);
         done(Area {
             tables,
             allocations,
@@ -208,8 +208,8 @@ impl Area {
         let tables = self.tables;
         let held = self.allocations;
         let before = self.trains;
-        let allocations = steps::granted_all(tables, before, held);
-        let trains = steps::calmed_all(before);
+        let allocations = grant::granted_all(tables, before, held);
+        let trains = grant::calmed_all(before);
         done(Area {
             tables,
             allocations,
@@ -230,8 +230,8 @@ impl Area {
         let tables = self.tables;
         let held = self.allocations;
         let before = self.trains;
-        let allocations = moves::released_all(tables, before, held);
-        let trains = moves::moved_all(tables, before);
+        let allocations = cycle::released_all(tables, before, held);
+        let trains = cycle::moved_all(tables, before);
         done(Area {
             tables,
             allocations,

@@ -9,7 +9,7 @@ use Rattle.tables.proofs.Consistency.{meets-iff}
 use Rattle.decoding.specs.Decoding.{decoded}
 use Rattle.reading.proofs.Accepted.{tables-meet}
 use Rattle.trains.specs.Train.{trainAt, ownIn, nextIn, nearIn, holdsIn}
-use Rattle.trains.specs.Steps.{wantsIn, movesIn, movedIn}
+use Rattle.trains.specs.Cycle.{wantsIn, movesIn, movedIn}
 use Rattle.trains.specs.Sound.{placeIn, runIn, brakingIn, askingIn, trainSound, allocationSound}
 use Rattle.answers.specs.declared.Answer.the-variants.{Done, Refused}
 use Rattle.answers.specs.Answers.{answerOf, numberOf}

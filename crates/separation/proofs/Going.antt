@@ -12,7 +12,7 @@ use Rattle.lists.proofs.Cases.{by-test, not-both, facts}
 use Rattle.lists.proofs.Refusals.{passed, rising, first-named, first-none, first-number, placeless, first-placeless}
 use Rattle.tables.specs.Facts.{Meets}
 use Rattle.tables.proofs.Consistency.{consistent}
-use Rattle.trains.specs.Steps.{firstSegment}
+use Rattle.trains.specs.EnterLeave.{firstSegment}
 use Rattle.area.specs.declared.Area.{Area}
 use Rattle.area.specs.declared.Outcome.{Outcome}
 use Rattle.answers.specs.Answers.{answerOf, numberOf, placeOf}

@@ -15,7 +15,9 @@ use Rattle.tables.specs.declared.Tables.{Tables}
 use Rattle.tables.specs.Facts.{Consistent, IsSegment}
 use Rattle.trains.specs.declared.Train.{Train}
 use Rattle.trains.specs.Train.{off, entered, trainAt, isOn, ownIn, ownOf, nextOf, holdsIn}
-use Rattle.trains.specs.Steps.{sped, requested, granted, calmed, movesIn, moved, movedIn, released, freed, firstSegment, takenBy, freedBy, becomes}
+use Rattle.trains.specs.Cycle.{sped, requested, movesIn, moved, movedIn, released, freed}
+use Rattle.trains.specs.Grant.{granted, calmed}
+use Rattle.trains.specs.EnterLeave.{firstSegment, takenBy, freedBy, becomes}
 use Rattle.trains.proofs.Safety.{TrainOk, frame, speed-ok, request-ok, grant-ok, position-ok, enter-ok}
 use Rattle.trains.proofs.Grant.{AsksFor, grant-keeps, grant-asked}
 use Rattle.separation.specs.Runs.{History, put, atEnter, atLeave, atGrant, atPosition}

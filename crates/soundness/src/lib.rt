@@ -8,7 +8,7 @@ ghost use Rattle.braking.specs.Braking.{S};
 ghost use Rattle.tables.specs.Bounds.{mostSegments};
 ghost use Rattle.tables.specs.Facts.{Consistent};
 ghost use Rattle.trains.specs.Train.{mostTrains, trainAt, isOn, ownIn, nextIn, nearIn};
-ghost use Rattle.trains.specs.Steps.{wantsIn};
+ghost use Rattle.trains.specs.Cycle.{wantsIn};
 ghost use Rattle.trains.specs.Sound.{offSound, placeIn, runIn, brakingIn, askingIn, trainSound, allocationSound};
 use tables::Tables;
 use trains::Spot;

@@ -12,7 +12,7 @@ use Rattle.lists.proofs.Loops.{least-le, least-holds, least-upto}
 use Rattle.tables.specs.declared.Tables.{Tables}
 use Rattle.trains.specs.declared.Train.{Train}
 use Rattle.trains.specs.Train.{mostTrains, trainAt, wanted}
-use Rattle.trains.specs.Steps.{asked, served, granted, calmed}
+use Rattle.trains.specs.Grant.{asked, served, granted, calmed}
 
 -- train t asks for segment s
 pub record AsksFor (T : Tables) (trains : List Train) (t s : ℕ) : Type 0 where

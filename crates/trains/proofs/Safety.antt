@@ -16,7 +16,7 @@ use Rattle.tables.specs.Tables.{countOf, segmentAt}
 use Rattle.tables.specs.Facts.{IsSegment, Follows, Consistent}
 use Rattle.trains.specs.declared.Train.{Train}
 use Rattle.trains.specs.Train.{entered, withSpeed, withAsking, movedTo, ownIn, ownOf, nextIn, nextOf, ownLength, ownLimit, nextLimit, nearIn, near}
-use Rattle.trains.specs.Steps.{speedIn, wantsIn, movesIn, movesOn, moved, movedIn, released}
+use Rattle.trains.specs.Cycle.{speedIn, wantsIn, movesIn, movesOn, moved, movedIn, released}
 use Rattle.trains.specs.Sound.{runIn, toRun}
 use Rattle.trains.specs.Way.{startAfter}
 

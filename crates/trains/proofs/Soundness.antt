@@ -13,7 +13,7 @@ use Rattle.tables.specs.declared.Tables.{Tables}
 use Rattle.tables.specs.Tables.{countOf}
 use Rattle.trains.specs.declared.Train.{Train}
 use Rattle.trains.specs.Train.{off, trainAt, isOn, ownOf, nextOf, ownLength, ownLimit, nextLimit, holdsNext, occupied, ahead}
-use Rattle.trains.specs.Steps.{wants}
+use Rattle.trains.specs.Cycle.{wants}
 use Rattle.trains.specs.Sound.{offSound, placeIn, placeSound, runIn, brakingIn, brakingSound, askingIn, askingSound, trainSound, allocationSound}
 use Rattle.trains.specs.SoundFacts.{SoundTrain, SoundAllocation}
 

@@ -1,5 +1,7 @@
 pub mod Train
-pub mod Steps
+pub mod Cycle
+pub mod Grant
+pub mod EnterLeave
 pub mod Sound
 pub mod SoundFacts
 pub mod Spot

@@ -10,7 +10,7 @@ use Rattle.tables.specs.declared.Tables.{Tables}
 use Rattle.tables.specs.Tables.{countOf}
 use Rattle.trains.specs.declared.Train.{Train}
 use Rattle.trains.specs.Train.{trainAt, isOn, ownOf, ownLength, ownLimit, nextLimit, holdsNext, occupied, ahead}
-use Rattle.trains.specs.Steps.{wants}
+use Rattle.trains.specs.Cycle.{wants}
 
 -- a train off is all zero
 abbrev pub offSound : Train → Bool

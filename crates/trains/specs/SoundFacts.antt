@@ -11,7 +11,7 @@ use Rattle.tables.specs.declared.Tables.{Tables}
 use Rattle.tables.specs.Tables.{countOf}
 use Rattle.trains.specs.declared.Train.{Train}
 use Rattle.trains.specs.Train.{trainAt, ownOf, nextOf, ownLength, ownLimit, nextLimit, holdsNext}
-use Rattle.trains.specs.Steps.{wants}
+use Rattle.trains.specs.Cycle.{wants}
 use Rattle.trains.specs.Sound.{toRun}
 
 -- a train on

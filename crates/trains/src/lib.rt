@@ -2,7 +2,7 @@
 ghost use mathlib.Core.Path.{_≡_};
 ghost use Rattle.trains.specs.Train.{off, entered, withSpeed, withAsking, movedTo, trainAt, ownIn, nextIn, nearIn, holdsIn};
 ghost use Rattle.trains.specs.Spot.{spotIn};
-ghost use Rattle.trains.specs.Steps.{wantsIn};
+ghost use Rattle.trains.specs.Cycle.{wantsIn};
 use lists::entry_u8;
 use lists::entry_u16;
 use lists::entry_u32;

@@ -6,7 +6,7 @@ use mir.Syntax.{w8}
 use mir.Val.{Fits}
 use borrow.Author.Needs.{needs}
 use Rattle.lists.specs.Words.{at}
-use Rattle.trains.specs.Steps.{firstSegment}
+use Rattle.trains.specs.EnterLeave.{firstSegment}
 use Rattle.area.specs.Calls.{outcome, routeTests, afterEnter}
 use Rattle.lists.proofs.Refusals.{refuse-outside, leave-inside, refuse-other, leave-same, refuse-above, leave-within, inside}
 use Rattle.area.proofs.Laws.{LeftOutcome, finish}

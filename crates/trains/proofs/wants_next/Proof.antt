@@ -1,4 +1,4 @@
-use Rattle.trains.specs.Steps.{wantsIn}
+use Rattle.trains.specs.Cycle.{wantsIn}
 use borrow.Author.Needs.{needs}
 use Rattle.trains.proofs.wants_next.Statement.{statement}
 use Rattle.trains.proofs.wants_next.Tie as tie

@@ -10,7 +10,7 @@ use Rattle.tables.specs.declared.Tables.{Tables}
 use Rattle.tables.specs.Tables.{countOf}
 use Rattle.trains.specs.declared.Train.{Train}
 use Rattle.trains.specs.Train.{mostTrains, trainAt, ownOf}
-use Rattle.trains.specs.Steps.{isExit, isLast}
+use Rattle.trains.specs.EnterLeave.{isExit, isLast}
 use Rattle.area.specs.Calls.{leaveTests, afterLeave, leaveCall}
 use Rattle.lists.proofs.Refusals.{refuse-broken, leave-met, refuse-outside, leave-inside, refuse-zero, leave-some, inside}
 use Rattle.area.proofs.Laws.{LeftOutcome, finish}

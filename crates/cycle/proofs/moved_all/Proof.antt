@@ -1,0 +1,80 @@
+use Prim.Native.Nat.{ℕ, _+_, _-_}
+use native.Mathlib.Omega.{arith}
+use borrow.Author.Needs.{needs}
+use Rattle.lists.proofs.Numbered.{nth-index, long-of}
+use Rattle.trains.specs.Train.{off}
+use Rattle.trains.specs.Cycle.{moved}
+use Rattle.lists.proofs.Loops.{Made, make-begin, make-more, make-over}
+use Rattle.cycle.proofs.moved_all.Statement.{statement}
+use Rattle.cycle.proofs.moved_all.Tie as tie
+
+abbrev Inv-loop : tie.InvT-loop
+Inv-loop tables trains new₀ i₀ new i = Made 24 (λ (t : ℕ). moved tables) trains trains i new
+
+abbrev μ-loop : tie.MeasureT-loop
+μ-loop tables trains new₀ i₀ new i = 24 - i
+
+loop-holds : tie.Need-loop-holds Inv-loop μ-loop
+loop-holds c = make-begin (search long-of) (search long-of)
+
+mul-x : tie.Need-mul-x Inv-loop μ-loop
+mul-x c = omega arith
+
+array-copy-out-x : tie.Need-array-copy-out-x Inv-loop μ-loop
+array-copy-out-x c = omega arith
+
+own-of-requires : tie.Need-own-of-requires Inv-loop μ-loop
+own-of-requires c κs = search needs
+
+cast-entry-u32 : tie.Need-cast-entry-u32 Inv-loop μ-loop
+cast-entry-u32 c = search needs
+
+entry-u32-requires : tie.Need-entry-u32-requires Inv-loop μ-loop
+entry-u32-requires c κs = search needs
+
+moved-train-requires : tie.Need-moved-train-requires Inv-loop μ-loop
+moved-train-requires c κs =
+    let l = c .before .before .before .before .before .before .before .before .before in
+    rw (nth-index off _ (l .loop .i)) at (l .before .pre (l .loop .i + 1))
+
+mul-new : tie.Need-mul-new Inv-loop μ-loop
+mul-new c = omega arith
+
+array-set-from-new : tie.Need-array-set-from-new Inv-loop μ-loop
+array-set-from-new c = omega arith
+
+add-i : tie.Need-add-i Inv-loop μ-loop
+add-i c = omega arith
+
+loop-less : tie.Need-loop-less Inv-loop μ-loop
+loop-less c = omega arith
+
+loop-again : tie.Need-loop-again Inv-loop μ-loop
+loop-again c =
+    let own = c .before .before .before .before .before in
+    let test = own .before .before .before .before in
+    make-more (test .before .loop .inv) _ (test .loop-test .taken)
+    (rw (rw (own .own-of .ensures) at (c .before .entry-u32 .ensures)) at (c .moved-train .ensures))
+
+returns : tie.Need-returns Inv-loop μ-loop
+returns c = make-over (c .before .loop .inv) (c .loop-test .left)
+
+pub moved-all-spec : {M : Type 1} → statement M
+moved-all-spec =
+    tie.close
+    (tie.spec
+    Inv-loop
+    μ-loop
+    loop-holds
+    mul-x
+    array-copy-out-x
+    own-of-requires
+    cast-entry-u32
+    entry-u32-requires
+    moved-train-requires
+    mul-new
+    array-set-from-new
+    add-i
+    loop-less
+    loop-again
+    returns)

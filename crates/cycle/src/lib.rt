@@ -1,0 +1,217 @@
+// What becomes of the trains and of the allocations at speed, request and position. Tables come by value once per step; their arrays
+// are lent to the leaves.
+ghost use mathlib.Core.Path.{_≡_};
+ghost use Prim.Native.Nat.{ℕ, _+_, _-_, min, max};
+ghost use lib.Dec.{eqb};
+ghost use Rattle.lists.specs.Words.{if_then_else_, at, each};
+ghost use Rattle.trains.specs.Train.{withSpeed, withAsking, trainAt, isOn, ownIn, ownOf, nearIn};
+ghost use Rattle.trains.specs.Cycle.{speedIn, sped, wantsIn, requested, movesIn, movesOn, moved, movedIn, freed};
+ghost use Rattle.cycle.specs.Room.{Room};
+use lists::entry_u8;
+use lists::entry_u16;
+use lists::entry_u32;
+use tables::Tables;
+use trains::Spot;
+use trains::Train;
+
+// ---- speed
+fn lowered(speed: u16, braking: u16) -> u16
+    ensures { λ r. ⌜ r ≡ speed - braking ⌝ }
+{
+    if speed <= braking { 0 } else { speed - braking }
+}
+
+fn smaller(a: u16, b: u16) -> u16
+    ensures { λ r. ⌜ r ≡ min a b ⌝ }
+{
+    if a < b { a } else { b }
+}
+
+fn larger(a: u16, b: u16) -> u16
+    ensures { λ r. ⌜ r ≡ max a b ⌝ }
+{
+    if a < b { b } else { a }
+}
+
+// The highest speed where a train stands: its own limit, and next's too where it is near.
+fn highest(near: bool, limit: u16, next: u16) -> u16
+    ensures { λ r. ⌜ r ≡ (if near then min limit next else limit) ⌝ }
+{
+    if near {
+        return smaller(limit, next);
+    }
+    limit
+}
+
+fn new_speed(braking: u16, near: bool, spot: Spot, speed: u16, wish: u16) -> u16
+    ensures { λ r. ⌜ r ≡ speedIn braking (spot .limit) (spot .nextlimit) near (spot .holds) speed wish ⌝ }
+{
+    let low = lowered(speed, braking);
+    if near & !spot.holds {
+        return low;
+    }
+    let high = highest(near, spot.limit, spot.nextlimit);
+    larger(low, smaller(high, wish))
+}
+
+fn sped_train(braking: u16, margin: u32, spot: Spot, wish: u16, x: Train) -> Train
+    ensures { λ r. ⌜ r ≡ (if isOn x then withSpeed x (speedIn braking (spot .limit) (spot .nextlimit) (nearIn (spot .length) margin (x .position)) (spot .holds) (x .speed) wish) else x) ⌝ }
+{
+    if x.route == 0 {
+        return x;
+    }
+    let near = trains::is_near(spot.length, margin, x.position);
+    trains::with_speed(x, new_speed(braking, near, spot, x.speed, wish))
+}
+
+pub fn sped_all(
+    tables: Tables,
+    allocations: [u8; 62],
+    wishes: &[u16],
+    trains: [Train; 24],
+) -> [Train; 24]
+    ensures { λ r. ⌜ r ≡ each (sped tables allocations (now (wishes .entry))) trains ⌝ }
+{
+    let mut new = trains;
+    let mut i: usize = 0;
+    while i < 24 {
+        let x = trains[i];
+        let t = (i + 1) as u8;
+        let spot = trains::spot_of(
+            &tables.routebytes,
+            &tables.lengths,
+            &tables.limits,
+            &allocations,
+            t,
+            x,
+        );
+        let wish = entry_u16(wishes, i + 1);
+        new[i] = sped_train(tables.braking, tables.margin, spot, wish, x);
+        i += 1;
+    }
+    new
+}
+
+// ---- request
+fn requested_train(margin: u32, spot: Spot, train: Train) -> Train
+    ensures { λ r. ⌜ r ≡ (if isOn train then withAsking train (wantsIn (nearIn (spot .length) margin (train .position)) (spot .holds) (spot .next)) else train) ⌝ }
+{
+    if train.route == 0 {
+        return train;
+    }
+    trains::with_asking(train, trains::wants_next(margin, spot, train))
+}
+
+pub fn requested_all(tables: Tables, allocations: [u8; 62], trains: [Train; 24]) -> [Train; 24]
+    ensures { λ r. ⌜ r ≡ each (requested tables allocations) trains ⌝ }
+{
+    let mut new = trains;
+    let mut i: usize = 0;
+    while i < 24 {
+        let x = trains[i];
+        let t = (i + 1) as u8;
+        let spot = trains::spot_of(
+            &tables.routebytes,
+            &tables.lengths,
+            &tables.limits,
+            &allocations,
+            t,
+            x,
+        );
+        new[i] = requested_train(tables.margin, spot, x);
+        i += 1;
+    }
+    new
+}
+
+// ---- position
+// How far a train is from its segment's start once it has run a cycle at its speed.
+fn run_to(position: u32, speed: u16) -> u64
+    ensures { λ r. ⌜ r ≡ position + speed ⌝ }
+{
+    position as u64 + speed as u64
+}
+
+fn moves_on(length: u32, x: Train) -> bool
+    ensures { λ r. ⌜ r ≡ movesIn length x ⌝ }
+{
+    (0 < x.route) & ((length as u64) <= run_to(x.position, x.speed))
+}
+
+fn moved_train(length: u32, x: Train) -> Train
+    requires { ⌜ Room x ⌝ }
+    ensures { λ r. ⌜ r ≡ movedIn length x ⌝ }
+{
+    let to = run_to(x.position, x.speed);
+    if moves_on(length, x) {
+        return trains::moved_to(x, x.place + 1, (to - length as u64) as u32);
+    }
+    trains::moved_to(x, x.place, to as u32)
+}
+
+// A train off keeps its zeros: it has no segment, no position and no speed.
+pub fn moved_all(tables: Tables, trains: [Train; 24]) -> [Train; 24]
+    requires { ⌜ ((t : ℕ) → Room (trainAt trains t)) ⌝ }
+    ensures { λ r. ⌜ r ≡ each (λ t. moved tables) trains ⌝ }
+{
+    let mut new = trains;
+    let mut i: usize = 0;
+    while i < 24 {
+        let x = trains[i];
+        let own = trains::own_of(&tables.routebytes, x);
+        let length = entry_u32(&tables.lengths, own as usize);
+        new[i] = moved_train(length, x);
+        i += 1;
+    }
+    new
+}
+
+// The segment that a train frees: its own where it moves on, 0 where it does not.
+fn left_by<'a>(routebytes: &'a [u8; 960], lengths: &'a [u32; 62], x: Train) -> u8
+    ensures { λ r. ⌜ r ≡ (if movesIn (at (now (lengths .entry)) (ownIn (now (routebytes .entry)) x)) x then ownIn (now (routebytes .entry)) x else 0) ⌝ }
+{
+    let own = trains::own_of(routebytes, x);
+    let length = entry_u32(lengths, own as usize);
+    if moves_on(length, x) { own } else { 0 }
+}
+
+fn left_all(tables: Tables, trains: [Train; 24]) -> [u8; 24]
+    ensures { λ r. ⌜ r ≡ each (λ t x. if movesOn tables x then ownOf tables x else 0) trains ⌝ }
+{
+    let mut new = [0u8; 24];
+    let mut i: usize = 0;
+    while i < 24 {
+        let x = trains[i];
+        new[i] = left_by(&tables.routebytes, &tables.lengths, x);
+        i += 1;
+    }
+    new
+}
+
+fn released_one(left: &[u8; 24], s: u8, h: u8) -> u8
+    ensures { λ r. ⌜ r ≡ (if eqb (at (now (left .entry)) h) s then 0 else h) ⌝ }
+{
+    if entry_u8(left, h as usize) == s {
+        0
+    } else {
+        h
+    }
+}
+
+fn released_by(left: [u8; 24], allocations: [u8; 62]) -> [u8; 62]
+    ensures { λ r. ⌜ r ≡ each (λ s h. if eqb (at left h) s then 0 else h) allocations ⌝ }
+{
+    let mut new = allocations;
+    let mut i: usize = 0;
+    while i < 62 {
+        new[i] = released_one(&left, (i + 1) as u8, allocations[i]);
+        i += 1;
+    }
+    new
+}
+
+pub fn released_all(tables: Tables, trains: [Train; 24], allocations: [u8; 62]) -> [u8; 62]
+    ensures { λ r. ⌜ r ≡ each (freed tables trains) allocations ⌝ }
+{
+    released_by(left_all(tables, trains), allocations)
+}

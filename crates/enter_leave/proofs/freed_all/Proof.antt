@@ -1,0 +1,54 @@
+use Prim.Native.Nat.{_-_}
+use native.Mathlib.Omega.{arith}
+use borrow.Author.Needs.{needs}
+use Rattle.trains.specs.EnterLeave.{freedBy}
+use Rattle.lists.proofs.Loops.{Made, make-begin, make-more, make-over}
+use Rattle.enter_leave.proofs.freed_all.Statement.{statement}
+use Rattle.enter_leave.proofs.freed_all.Tie as tie
+
+abbrev Inv-loop : tie.InvT-loop
+Inv-loop t allocations new₀ i₀ new i = Made 62 (freedBy t) allocations allocations i new
+
+abbrev μ-loop : tie.MeasureT-loop
+μ-loop t allocations new₀ i₀ new i = 62 - i
+
+loop-holds : tie.Need-loop-holds Inv-loop μ-loop
+loop-holds c = make-begin (search needs) (search needs)
+
+array-read-freed-one : tie.Need-array-read-freed-one Inv-loop μ-loop
+array-read-freed-one c = omega arith
+
+freed-one-requires : tie.Need-freed-one-requires Inv-loop μ-loop
+freed-one-requires c κs = search needs
+
+array-write-new : tie.Need-array-write-new Inv-loop μ-loop
+array-write-new c = omega arith
+
+add-i : tie.Need-add-i Inv-loop μ-loop
+add-i c = omega arith
+
+loop-less : tie.Need-loop-less Inv-loop μ-loop
+loop-less c = omega arith
+
+loop-again : tie.Need-loop-again Inv-loop μ-loop
+loop-again c =
+    make-more (c .before .before .loop .inv) _ (c .before .loop-test .taken)
+    (c .freed-one .ensures)
+
+returns : tie.Need-returns Inv-loop μ-loop
+returns c = make-over (c .before .loop .inv) (c .loop-test .left)
+
+pub freed-all-spec : {M : Type 1} → statement M
+freed-all-spec =
+    tie.close
+    (tie.spec
+    Inv-loop
+    μ-loop
+    loop-holds
+    array-read-freed-one
+    freed-one-requires
+    array-write-new
+    add-i
+    loop-less
+    loop-again
+    returns)

@@ -1,0 +1,63 @@
+use Prim.Native.Nat.{ℕ, _-_}
+use native.Mathlib.Omega.{arith}
+use borrow.Author.Needs.{needs}
+use Rattle.lists.proofs.Numbered.{long-of}
+use Rattle.trains.specs.Grant.{calmed}
+use Rattle.lists.proofs.Loops.{Made, make-begin, make-more, make-over}
+use Rattle.grant.proofs.calmed_all.Statement.{statement}
+use Rattle.grant.proofs.calmed_all.Tie as tie
+
+abbrev Inv-loop : tie.InvT-loop
+Inv-loop trains new₀ i₀ new i = Made 24 (λ (t : ℕ). calmed) trains trains i new
+
+abbrev μ-loop : tie.MeasureT-loop
+μ-loop trains new₀ i₀ new i = 24 - i
+
+loop-holds : tie.Need-loop-holds Inv-loop μ-loop
+loop-holds c = make-begin (search long-of) (search long-of)
+
+mul-x : tie.Need-mul-x Inv-loop μ-loop
+mul-x c = omega arith
+
+array-copy-out-x : tie.Need-array-copy-out-x Inv-loop μ-loop
+array-copy-out-x c = omega arith
+
+with-asking-requires : tie.Need-with-asking-requires Inv-loop μ-loop
+with-asking-requires c κs = search needs
+
+mul-new : tie.Need-mul-new Inv-loop μ-loop
+mul-new c = omega arith
+
+array-set-from-new : tie.Need-array-set-from-new Inv-loop μ-loop
+array-set-from-new c = omega arith
+
+add-i : tie.Need-add-i Inv-loop μ-loop
+add-i c = omega arith
+
+loop-less : tie.Need-loop-less Inv-loop μ-loop
+loop-less c = omega arith
+
+loop-again : tie.Need-loop-again Inv-loop μ-loop
+loop-again c =
+    make-more (c .before .before .before .loop .inv) _ (c .before .before .loop-test .taken)
+    (c .with-asking .ensures)
+
+returns : tie.Need-returns Inv-loop μ-loop
+returns c = make-over (c .before .loop .inv) (c .loop-test .left)
+
+pub calmed-all-spec : {M : Type 1} → statement M
+calmed-all-spec =
+    tie.close
+    (tie.spec
+    Inv-loop
+    μ-loop
+    loop-holds
+    mul-x
+    array-copy-out-x
+    with-asking-requires
+    mul-new
+    array-set-from-new
+    add-i
+    loop-less
+    loop-again
+    returns)
