@@ -9,6 +9,7 @@ use Rattle.lists.specs.Words.{if_then_else_, at, each}
 use Rattle.lists.specs.Tests.{Test, _⇒_, firstOf}
 use Rattle.tables.specs.declared.Tables.{Tables}
 use Rattle.summary.specs.Summary.{summaryOf}
+use Rattle.trains.specs.Due.{speedDue, requestDue, grantDue, positionDue}
 use Rattle.trains.specs.Train.{mostTrains, off, entered, trainAt, isOn, ownOf}
 use Rattle.trains.specs.Cycle.{sped, requested, moved, freed}
 use Rattle.trains.specs.Grant.{granted, calmed}
@@ -25,19 +26,6 @@ outcomeBy t new old = record { answer = answerOf (t .number) (t .place); area = 
 
 abbrev pub outcome : List Test → Area → Area → Outcome
 outcome tests new old = outcomeBy (firstOf tests) new old
-
--- the steps due, in their order
-abbrev pub speedDue : ℕ
-speedDue = 0
-
-abbrev pub requestDue : ℕ
-requestDue = 1
-
-abbrev pub grantDue : ℕ
-grantDue = 2
-
-abbrev pub positionDue : ℕ
-positionDue = 3
 
 -- 12: a cycle step not due
 abbrev pub notDue : ℕ → Area → Bool

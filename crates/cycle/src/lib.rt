@@ -4,8 +4,8 @@ ghost use mathlib.Core.Path.{_≡_};
 ghost use Prim.Native.Nat.{ℕ, _+_, _-_, min, max};
 ghost use lib.Dec.{eqb};
 ghost use Rattle.lists.specs.Words.{if_then_else_, at, each};
-ghost use Rattle.trains.specs.Train.{withSpeed, withAsking, trainAt, isOn, ownIn, ownOf, nearIn};
-ghost use Rattle.trains.specs.Cycle.{speedIn, sped, wantsIn, requested, movesIn, movesOn, moved, movedIn, freed};
+ghost use Rattle.trains.specs.Train.{withSpeed, withAsking, trainAt, isOn, ownIn, ownOf};
+ghost use Rattle.trains.specs.Cycle.{upperEnd, newSpeed, sped, wants, requested, movesIn, movesOn, moved, movedIn, freed};
 ghost use Rattle.cycle.specs.Room.{Room};
 use lists::entry_u8;
 use lists::entry_u16;
@@ -33,35 +33,33 @@ fn larger(a: u16, b: u16) -> u16
     if a < b { b } else { a }
 }
 
-// The highest speed where a train stands: its own limit, and next's too where it is near.
-fn highest(near: bool, limit: u16, next: u16) -> u16
-    ensures { λ r. ⌜ r ≡ (if near then min limit next else limit) ⌝ }
+// The highest speed where a train stands: its own limit, and next's too where it is near and has next.
+fn upper_end(spot: Spot) -> u16
+    ensures { λ r. ⌜ r ≡ upperEnd spot ⌝ }
 {
-    if near {
-        return smaller(limit, next);
+    if spot.near & spot.holds {
+        return smaller(spot.limit, spot.nextlimit);
     }
-    limit
+    spot.limit
 }
 
-fn new_speed(braking: u16, near: bool, spot: Spot, speed: u16, wish: u16) -> u16
-    ensures { λ r. ⌜ r ≡ speedIn braking (spot .limit) (spot .nextlimit) near (spot .holds) speed wish ⌝ }
+fn new_speed(braking: u16, spot: Spot, x: Train, wish: u16) -> u16
+    ensures { λ r. ⌜ r ≡ newSpeed braking spot x wish ⌝ }
 {
-    let low = lowered(speed, braking);
-    if near & !spot.holds {
+    let low = lowered(x.speed, braking);
+    if spot.near & !spot.holds {
         return low;
     }
-    let high = highest(near, spot.limit, spot.nextlimit);
-    larger(low, smaller(high, wish))
+    larger(low, smaller(upper_end(spot), wish))
 }
 
-fn sped_train(braking: u16, margin: u32, spot: Spot, wish: u16, x: Train) -> Train
-    ensures { λ r. ⌜ r ≡ (if isOn x then withSpeed x (speedIn braking (spot .limit) (spot .nextlimit) (nearIn (spot .length) margin (x .position)) (spot .holds) (x .speed) wish) else x) ⌝ }
+fn sped_train(braking: u16, spot: Spot, wish: u16, x: Train) -> Train
+    ensures { λ r. ⌜ r ≡ (if isOn x then withSpeed x (newSpeed braking spot x wish) else x) ⌝ }
 {
     if x.route == 0 {
         return x;
     }
-    let near = trains::is_near(spot.length, margin, x.position);
-    trains::with_speed(x, new_speed(braking, near, spot, x.speed, wish))
+    trains::with_speed(x, new_speed(braking, spot, x, wish))
 }
 
 pub fn sped_all(
@@ -72,53 +70,52 @@ pub fn sped_all(
 ) -> [Train; 24]
     ensures { λ r. ⌜ r ≡ each (sped tables allocations (now (wishes .entry))) trains ⌝ }
 {
+    let spots = trains::spots_of(
+        &tables.routebytes,
+        &tables.lengths,
+        &tables.limits,
+        &allocations,
+        tables.margin,
+        trains,
+    );
     let mut new = trains;
     let mut i: usize = 0;
     while i < 24 {
         let x = trains[i];
-        let t = (i + 1) as u8;
-        let spot = trains::spot_of(
-            &tables.routebytes,
-            &tables.lengths,
-            &tables.limits,
-            &allocations,
-            t,
-            x,
-        );
-        let wish = entry_u16(wishes, i + 1);
-        new[i] = sped_train(tables.braking, tables.margin, spot, wish, x);
+        let spot = spots[i];
+        new[i] = sped_train(tables.braking, spot, entry_u16(wishes, i + 1), x);
         i += 1;
     }
     new
 }
 
 // ---- request
-fn requested_train(margin: u32, spot: Spot, train: Train) -> Train
-    ensures { λ r. ⌜ r ≡ (if isOn train then withAsking train (wantsIn (nearIn (spot .length) margin (train .position)) (spot .holds) (spot .next)) else train) ⌝ }
+fn requested_train(spot: Spot, x: Train) -> Train
+    ensures { λ r. ⌜ r ≡ (if isOn x then withAsking x (wants spot) else x) ⌝ }
 {
-    if train.route == 0 {
-        return train;
+    if x.route == 0 {
+        return x;
     }
-    trains::with_asking(train, trains::wants_next(margin, spot, train))
+    trains::with_asking(x, trains::wants_next(spot))
 }
 
 pub fn requested_all(tables: Tables, allocations: [u8; 62], trains: [Train; 24]) -> [Train; 24]
     ensures { λ r. ⌜ r ≡ each (requested tables allocations) trains ⌝ }
 {
+    let spots = trains::spots_of(
+        &tables.routebytes,
+        &tables.lengths,
+        &tables.limits,
+        &allocations,
+        tables.margin,
+        trains,
+    );
     let mut new = trains;
     let mut i: usize = 0;
     while i < 24 {
         let x = trains[i];
-        let t = (i + 1) as u8;
-        let spot = trains::spot_of(
-            &tables.routebytes,
-            &tables.lengths,
-            &tables.limits,
-            &allocations,
-            t,
-            x,
-        );
-        new[i] = requested_train(tables.margin, spot, x);
+        let spot = spots[i];
+        new[i] = requested_train(spot, x);
         i += 1;
     }
     new

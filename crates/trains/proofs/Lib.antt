@@ -1,3 +1,5 @@
+pub mod Segments
+pub mod Spots
 pub mod Safety
-pub mod Grant
 pub mod Soundness
+pub mod Grant

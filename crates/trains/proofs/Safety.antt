@@ -1,7 +1,7 @@
 -- The safety laws of one train on the area: what holds of it, and that each call keeps it. No lists of trains or allocations:
 -- `held` says who holds a segment, `way` is the way since its enter, `got` what grant steps since then allocated to it.
 use Prim.Native.Nat.{ℕ, zero, suc, _+_, _-_, _≤_, _<_, min, max}
-use mathlib.Core.Path.{_≡_, refl, sym, _∙_}
+use mathlib.Core.Path.{_≡_, refl, sym, ap, _∙_}
 use mathlib.Core.Logic.{_⊎_, inl, inr}
 use mathlib.Core.Bool.{Bool, true, false, not, _&&_, and-false, and-eq-true-iff}
 use native.Mathlib.Omega.{arith}
@@ -15,14 +15,13 @@ use Rattle.tables.specs.declared.Tables.{Tables}
 use Rattle.tables.specs.Tables.{countOf, segmentAt}
 use Rattle.tables.specs.Facts.{IsSegment, Follows, Consistent}
 use Rattle.trains.specs.declared.Train.{Train}
-use Rattle.trains.specs.Train.{entered, withSpeed, withAsking, movedTo, ownIn, ownOf, nextIn, nextOf, ownLength, ownLimit, nextLimit, nearIn, near}
-use Rattle.trains.specs.Cycle.{speedIn, wantsIn, movesIn, movesOn, moved, movedIn, released}
-use Rattle.trains.specs.Sound.{runIn, toRun}
+use Rattle.trains.specs.Due.{speedDue, requestDue, grantDue, positionDue}
+use Rattle.trains.specs.Train.{entered, withSpeed, withAsking, movedTo, ownIn, ownOf, nextIn, nextOf, ownLength, ownLimit, nextLimit, near, holdsNext, occupiedIn, occupied, aheadIn, ahead}
+use Rattle.trains.specs.Spot.{spotOf}
+use Rattle.trains.specs.Cycle.{low, upperEnd, newSpeed, wants, movesIn, movesOn, moved, movedIn, released}
+use Rattle.trains.specs.Sound.{toRun}
 use Rattle.trains.specs.Way.{startAfter}
-
--- next exists and is held by train t
-abbrev pub holdsBy : (ℕ → ℕ) → ℕ → ℕ → Bool
-holdsBy held t next = ltb 0 next && eqb (held next) t
+use Rattle.trains.proofs.Segments.{own-occupied, occupied-own, not-occupied, ahead-next}
 
 -- place p of route r is one of the tables
 pub record OnRoute (T : Tables) (r p : ℕ) : Type 0 where
@@ -35,20 +34,21 @@ pub record TrainOk (T : Tables) (due : ℕ) (held : ℕ → ℕ) (t : ℕ) (x : 
   pub onRoute : OnRoute T (x .route) (x .place)
   pub inside : x .position < ownLength T x
   pub slow : x .speed ≤ ownLimit T x
-  pub holds : held (ownOf T x) ≡ t
-  pub only : (s : ℕ) → held s ≡ t → (s ≡ ownOf T x) ⊎ ((1 ≤ nextOf T x) × (s ≡ nextOf T x) × (got s ≡ true))
-  pub stops : holdsBy held t (nextOf T x) ≡ false → x .position + toRun T due (x .speed) < ownLength T x
-  pub nextSlow : holdsBy held t (nextOf T x) ≡ true → 1 ≤ due → ownLength T x ≤ x .position + x .speed → x .speed ≤ nextLimit T x
+  -- what is under it is allocated to it, and nothing else is but what a grant gave it ahead
+  pub holds : (s : ℕ) → occupied T x s ≡ true → held s ≡ t
+  pub only : (s : ℕ) → held s ≡ t → (occupied T x s ≡ true) ⊎ ((ahead T x s ≡ true) × (got s ≡ true))
+  pub stops : holdsNext T held t x ≡ false → x .position + toRun (T .braking) due (x .speed) < ownLength T x
+  pub nextSlow : holdsNext T held t x ≡ true → speedDue < due → ownLength T x ≤ x .position + x .speed → x .speed ≤ nextLimit T x
   pub walked : way ≡ startAfter T (x .route) (x .place - 1) + x .position
-  pub asksWell : x .asks ≡ (eqb due 2 && wantsIn (near T x) (holdsBy held t (nextOf T x)) (nextOf T x))
+  pub asksWell : x .asks ≡ (eqb due grantDue && wants (spotOf T held t x))
 
-run-now : (b v : ℕ) → runIn b 0 v ≡ B b v
-unfolding runIn
+run-now : (b v : ℕ) → toRun b speedDue v ≡ B b v
+unfolding toRun
 run-now b v = refl
 
-run-later : (b due v : ℕ) → 1 ≤ due → runIn b due v ≡ S b v
-unfolding runIn
-run-later b due v h = rw (ne-eqb due 0 (λ e. omega arith))
+run-later : (b due v : ℕ) → speedDue < due → toRun b due v ≡ S b v
+unfolding toRun
+run-later b due v h = rw (ne-eqb due speedDue (λ e. omega arith))
 
 -- the next segment starts where this one ends
 pub start-step : (T : Tables) (r p : ℕ) → 1 ≤ p → startAfter T r p ≡ startAfter T r (p - 1) + at (T .lengths) (segmentAt (T .routebytes) r p)
@@ -97,65 +97,66 @@ module _ (T : Tables) (K : Consistent T) where
       let l = K .limited (ownOf T x) (own-is x o) in
       omega (arith, S-mono (T .braking) (K .rate) v (T .gmax) (omega arith), K .stops)
 
-  -- what the two parts of `holdsBy` say
-  pub held-next : (held : ℕ → ℕ) (t next : ℕ) → holdsBy held t next ≡ true → (1 ≤ next) × (held next ≡ t)
-  held-next held t next h =
-      let f = and-eq-true-iff (ltb 0 next) (eqb (held next) t) .0 h in
-      (ltb-true 0 next (f .0), eqb-true (held next) t (f .1))
+  -- what the two parts of `holdsNext` say
+  pub held-next : (held : ℕ → ℕ) (t : ℕ) (x : Train) → holdsNext T held t x ≡ true → (1 ≤ nextOf T x) × (held (nextOf T x) ≡ t)
+  held-next held t x h =
+      let f = and-eq-true-iff (ltb 0 (nextOf T x)) (eqb (held (nextOf T x)) t) .0 h in
+      (ltb-true 0 (nextOf T x) (f .0), eqb-true (held (nextOf T x)) t (f .1))
 
-  next-held : (held : ℕ → ℕ) (t next : ℕ) → 1 ≤ next → held next ≡ t → holdsBy held t next ≡ true
-  next-held held t next some e = rw (lt-ltb 0 next some, eq-eqb (held next) t e)
+  next-held : (held : ℕ → ℕ) (t : ℕ) (x : Train) → 1 ≤ nextOf T x → held (nextOf T x) ≡ t → holdsNext T held t x ≡ true
+  next-held held t x some e = rw (lt-ltb 0 (nextOf T x) some, eq-eqb (held (nextOf T x)) t e)
 
   -- low is never above the upper end, so that the order in which a clamp looks at its ends plays no part
   pub low-high :
       (held : ℕ → ℕ) (t : ℕ) (x : Train) → OnRoute T (x .route) (x .place) → x .speed ≤ ownLimit T x
-      → x .speed - T .braking ≤ (if near T x && holdsBy held t (nextOf T x) then min (ownLimit T x) (nextLimit T x) else ownLimit T x)
+      → low (T .braking) x ≤ upperEnd (spotOf T held t x)
   low-high held t x o slow =
-      if-case (λ (h : ℕ). x .speed - T .braking ≤ h) (near T x && holdsBy held t (nextOf T x))
+      if-case (λ (h : ℕ). x .speed - T .braking ≤ h) (near T x && holdsNext T held t x)
       (λ e.
-      let q = and-eq-true-iff (near T x) (holdsBy held t (nextOf T x)) .0 e .1 in
-      let s = next-is x o (held-next held t (nextOf T x) q .0) in
+      let q = and-eq-true-iff (near T x) (holdsNext T held t x) .0 e .1 in
+      let s = next-is x o (held-next held t x q .0) in
       let g = K .gentle (ownOf T x) (nextOf T x) (own-is x o) (s .follows) in
       omega arith)
       (λ e. omega arith)
 
   -- ---- speed
-  module _ (held : ℕ → ℕ) (t : ℕ) (x : Train) (way : ℕ) (got : ℕ → Bool) (ok : TrainOk T 0 held t x way got) (wish : ℕ) where
+  module _ (held : ℕ → ℕ) (t : ℕ) (x : Train) (way : ℕ) (got : ℕ → Bool) (ok : TrainOk T speedDue held t x way got) (wish : ℕ) where
     abbrev speedNow : ℕ
-    speedNow = speedIn (T .braking) (ownLimit T x) (nextLimit T x) (near T x) (holdsBy held t (nextOf T x)) (x .speed) wish
+    speedNow = newSpeed (T .braking) (spotOf T held t x) x wish
 
     new-slow : speedNow ≤ ownLimit T x
-    unfolding speedIn
+    unfolding newSpeed
     new-slow =
-        if-case (λ (v : ℕ). v ≤ ownLimit T x) (near T x && not (holdsBy held t (nextOf T x))) (λ e. omega (arith, ok .slow))
-        (λ e. if-case (λ (h : ℕ). max (x .speed - T .braking) (min h wish) ≤ ownLimit T x) (near T x) (λ n. omega (arith, ok .slow)) (λ n. omega (arith, ok .slow)))
+        if-case (λ (v : ℕ). v ≤ ownLimit T x) (near T x && not (holdsNext T held t x)) (λ e. omega (arith, ok .slow))
+        (λ e.
+        if-case (λ (h : ℕ). max (x .speed - T .braking) (min h wish) ≤ ownLimit T x) (near T x && holdsNext T held t x)
+        (λ n. omega (arith, ok .slow)) (λ n. omega (arith, ok .slow)))
 
     -- far from the end any speed within the limit stops within the segment
     far-stops : near T x ≡ false → (v : ℕ) → v ≤ ownLimit T x → x .position + S (T .braking) v < ownLength T x
-    unfolding nearIn
     far-stops n v h =
         let l = K .long (ownOf T x) (own-is x (ok .onRoute)) in
         omega (arith, leb-false (ownLength T x - T .margin) (x .position) n, in-margin x (ok .onRoute) v h)
 
-    new-stops : holdsBy held t (nextOf T x) ≡ false → x .position + S (T .braking) speedNow < ownLength T x
-    unfolding speedIn
+    new-stops : holdsNext T held t x ≡ false → x .position + S (T .braking) speedNow < ownLength T x
+    unfolding newSpeed
     new-stops o =
         by-test (near T x)
         (λ n. rw (n, o) (omega (arith, ok .stops o, run-now (T .braking) (x .speed), B-step (T .braking) (K .rate) (x .speed))))
         (λ n. far-stops n speedNow new-slow)
 
-    new-next : holdsBy held t (nextOf T x) ≡ true → ownLength T x ≤ x .position + speedNow → speedNow ≤ nextLimit T x
-    unfolding speedIn
+    new-next : holdsNext T held t x ≡ true → ownLength T x ≤ x .position + speedNow → speedNow ≤ nextLimit T x
+    unfolding newSpeed
     new-next o h =
         by-test (near T x)
         (λ n.
-        let s = next-is x (ok .onRoute) (held-next held t (nextOf T x) o .0) in
+        let s = next-is x (ok .onRoute) (held-next held t x o .0) in
         let g = K .gentle (ownOf T x) (nextOf T x) (own-is x (ok .onRoute)) (s .follows) in
         rw (n, o) (omega (arith, ok .slow)))
         (λ n. absurd (omega (arith, far-stops n speedNow new-slow, S-above (T .braking) (K .rate) speedNow)))
 
-    pub speed-ok : TrainOk T 1 held t (withSpeed x speedNow) way got
-    unfolding ownIn nextIn
+    pub speed-ok : TrainOk T requestDue held t (withSpeed x speedNow) way got
+    unfolding ownIn nextIn occupiedIn aheadIn
     speed-ok =
         record {
           onRoute = ok .onRoute;
@@ -163,25 +164,31 @@ module _ (T : Tables) (K : Consistent T) where
           slow = new-slow;
           holds = ok .holds;
           only = ok .only;
-          stops = λ o. rw (run-later (T .braking) 1 speedNow (omega arith)) (new-stops o);
+          stops = λ o. rw (run-later (T .braking) requestDue speedNow (omega arith)) (new-stops o);
           nextSlow = λ o d h. new-next o h;
           walked = ok .walked;
           asksWell = ok .asksWell;
         }
 
   -- ---- who holds what changes
-  module _ (held held′ : ℕ → ℕ) (t next : ℕ) (kept : (s : ℕ) → held s ≡ t → held′ s ≡ t) where
-    holds-kept : holdsBy held t next ≡ true → holdsBy held′ t next ≡ true
-    holds-kept o = let p = held-next held t next o in next-held held′ t next (p .0) (kept next (p .1))
+  module _ (held held′ : ℕ → ℕ) (t : ℕ) (x : Train) (kept : (s : ℕ) → held s ≡ t → held′ s ≡ t) where
+    holds-kept : holdsNext T held t x ≡ true → holdsNext T held′ t x ≡ true
+    holds-kept o = let p = held-next held t x o in next-held held′ t x (p .0) (kept (nextOf T x) (p .1))
 
-    holds-not : holdsBy held′ t next ≡ false → holdsBy held t next ≡ false
-    holds-not o = by-test (holdsBy held t next) (λ e. not-both (holdsBy held′ t next) (holds-kept e) o) (λ e. e)
+    holds-not : holdsNext T held′ t x ≡ false → holdsNext T held t x ≡ false
+    holds-not o = by-test (holdsNext T held t x) (λ e. not-both (holdsNext T held′ t x) (holds-kept e) o) (λ e. e)
 
   holds-same :
-      (held held′ : ℕ → ℕ) (t next : ℕ) → ((s : ℕ) → held s ≡ t → held′ s ≡ t) → ((s : ℕ) → held′ s ≡ t → held s ≡ t)
-      → holdsBy held t next ≡ holdsBy held′ t next
-  holds-same held held′ t next to from =
-      by-test (holdsBy held t next) (λ e. e ∙ sym (holds-kept held held′ t next to e)) (λ e. e ∙ sym (holds-not held′ held t next from e))
+      (held held′ : ℕ → ℕ) (t : ℕ) (x : Train) → ((s : ℕ) → held s ≡ t → held′ s ≡ t) → ((s : ℕ) → held′ s ≡ t → held s ≡ t)
+      → holdsNext T held t x ≡ holdsNext T held′ t x
+  holds-same held held′ t x to from =
+      by-test (holdsNext T held t x) (λ e. e ∙ sym (holds-kept held held′ t x to e)) (λ e. e ∙ sym (holds-not held′ held t x from e))
+
+  wants-same :
+      (held held′ : ℕ → ℕ) (t : ℕ) (x : Train) → holdsNext T held t x ≡ holdsNext T held′ t x
+      → wants (spotOf T held t x) ≡ wants (spotOf T held′ t x)
+  unfolding wants
+  wants-same held held′ t x e = rw e
 
   -- a train whose segments stay as they are
   pub frame :
@@ -196,19 +203,19 @@ module _ (T : Tables) (K : Consistent T) where
         onRoute = ok .onRoute;
         inside = ok .inside;
         slow = ok .slow;
-        holds = to (ownOf T x) (ok .holds);
-        only = λ s e. cases (ok .only s (from s e)) (λ q. inl q) (λ q. inr (q .0, q .1, g s (q .2)));
-        stops = λ o. ok .stops (holds-not held held′ t (nextOf T x) to o);
-        nextSlow = λ o d h. ok .nextSlow (holds-kept held′ held t (nextOf T x) from o) d h;
+        holds = λ s e. to s (ok .holds s e);
+        only = λ s e. cases (ok .only s (from s e)) (λ q. inl q) (λ q. inr (q .0, g s (q .1)));
+        stops = λ o. ok .stops (holds-not held held′ t x to o);
+        nextSlow = λ o d h. ok .nextSlow (holds-kept held′ held t x from o) d h;
         walked = ok .walked;
-        asksWell = ok .asksWell ∙ rw (holds-same held held′ t (nextOf T x) to from);
+        asksWell = ok .asksWell ∙ ap (λ (b : Bool). eqb due grantDue && b) (wants-same held held′ t x (holds-same held held′ t x to from));
       }
 
   -- ---- request
   pub request-ok :
-      (held : ℕ → ℕ) (t : ℕ) (x : Train) (way : ℕ) (got : ℕ → Bool) → TrainOk T 1 held t x way got
-      → TrainOk T 2 held t (withAsking x (wantsIn (near T x) (holdsBy held t (nextOf T x)) (nextOf T x))) way got
-  unfolding ownIn nextIn
+      (held : ℕ → ℕ) (t : ℕ) (x : Train) (way : ℕ) (got : ℕ → Bool) → TrainOk T requestDue held t x way got
+      → TrainOk T grantDue held t (withAsking x (wants (spotOf T held t x))) way got
+  unfolding ownIn nextIn occupiedIn aheadIn
   request-ok held t x way got ok =
       record {
         onRoute = ok .onRoute;
@@ -216,46 +223,47 @@ module _ (T : Tables) (K : Consistent T) where
         slow = ok .slow;
         holds = ok .holds;
         only = ok .only;
-        stops = λ o. rw (run-later (T .braking) 2 (x .speed) (omega arith)) (rw (run-later (T .braking) 1 (x .speed) (omega arith)) at (ok .stops o));
+        stops =
+            λ o. rw (run-later (T .braking) grantDue (x .speed) (omega arith)) (rw (run-later (T .braking) requestDue (x .speed) (omega arith)) at (ok .stops o));
         nextSlow = λ o d h. ok .nextSlow o (omega arith) h;
         walked = ok .walked;
         asksWell = refl;
       }
 
-  -- ---- grant: a train may gain what it asked for, and loses nothing
+  -- ---- grant: a train may gain what lies ahead of it, and loses nothing
   pub grant-ok :
       {held held′ : ℕ → ℕ} {t : ℕ} {x : Train} {way : ℕ} {got got′ : ℕ → Bool}
-      → TrainOk T 2 held t x way got
+      → TrainOk T grantDue held t x way got
       → ((s : ℕ) → held s ≡ t → held′ s ≡ t)
-      → ((s : ℕ) → held′ s ≡ t → (held s ≡ t) ⊎ ((1 ≤ nextOf T x) × (s ≡ nextOf T x) × (got′ s ≡ true)))
+      → ((s : ℕ) → held′ s ≡ t → (held s ≡ t) ⊎ ((ahead T x s ≡ true) × (got′ s ≡ true)))
       → ((s : ℕ) → got s ≡ true → got′ s ≡ true)
-      → TrainOk T 3 held′ t (withAsking x false) way got′
-  unfolding ownIn nextIn
+      → TrainOk T positionDue held′ t (withAsking x false) way got′
+  unfolding ownIn nextIn occupiedIn aheadIn
   grant-ok {held} {held′} {t} {x} {way} {got} {got′} ok to from g =
+      let later : holdsNext T held t x ≡ false → x .position + S (T .braking) (x .speed) < ownLength T x =
+      λ e. rw (run-later (T .braking) grantDue (x .speed) (omega arith)) at (ok .stops e) in
       record {
         onRoute = ok .onRoute;
         inside = ok .inside;
         slow = ok .slow;
-        holds = to (ownOf T x) (ok .holds);
-        only = λ s e. cases (from s e) (λ q. cases (ok .only s q) (λ r. inl r) (λ r. inr (r .0, r .1, g s (r .2)))) (λ q. inr q);
-        stops =
-            λ o.
-            rw (run-later (T .braking) 3 (x .speed) (omega arith)) (rw (run-later (T .braking) 2 (x .speed) (omega arith)) at (ok .stops (holds-not held held′ t (nextOf T x) to o)));
+        holds = λ s e. to s (ok .holds s e);
+        only = λ s e. cases (from s e) (λ q. cases (ok .only s q) (λ r. inl r) (λ r. inr (r .0, g s (r .1)))) (λ q. inr q);
+        stops = λ o. rw (run-later (T .braking) positionDue (x .speed) (omega arith)) (later (holds-not held held′ t x to o));
         nextSlow =
             λ o d h.
-            by-test (holdsBy held t (nextOf T x)) (λ e. ok .nextSlow e (omega arith) h)
-            (λ e. absurd (omega (arith, rw (run-later (T .braking) 2 (x .speed) (omega arith)) at (ok .stops e), S-above (T .braking) (K .rate) (x .speed))));
+            by-test (holdsNext T held t x) (λ e. ok .nextSlow e (omega arith) h)
+            (λ e. absurd (omega (arith, later e, S-above (T .braking) (K .rate) (x .speed))));
         walked = ok .walked;
         asksWell = refl;
       }
 
   -- ---- position
-  module _ (held : ℕ → ℕ) (t : ℕ) (x : Train) (way : ℕ) (got : ℕ → Bool) (ok : TrainOk T 3 held t x way got) where
-    later-stops : holdsBy held t (nextOf T x) ≡ false → x .position + S (T .braking) (x .speed) < ownLength T x
-    later-stops o = rw (run-later (T .braking) 3 (x .speed) (omega arith)) at (ok .stops o)
+  module _ (held : ℕ → ℕ) (t : ℕ) (x : Train) (way : ℕ) (got : ℕ → Bool) (ok : TrainOk T positionDue held t x way got) where
+    later-stops : holdsNext T held t x ≡ false → x .position + S (T .braking) (x .speed) < ownLength T x
+    later-stops o = rw (run-later (T .braking) positionDue (x .speed) (omega arith)) at (ok .stops o)
 
-    pub further-ok : x .position + x .speed < ownLength T x → TrainOk T 0 held t (movedTo x (x .place) (x .position + x .speed)) (way + x .speed) got
-    unfolding ownIn nextIn
+    pub further-ok : x .position + x .speed < ownLength T x → TrainOk T speedDue held t (movedTo x (x .place) (x .position + x .speed)) (way + x .speed) got
+    unfolding ownIn nextIn occupiedIn aheadIn
     further-ok short =
         record {
           onRoute = ok .onRoute;
@@ -270,20 +278,21 @@ module _ (T : Tables) (K : Consistent T) where
         }
 
     -- a train that moves on holds its next
-    move-held : ownLength T x ≤ x .position + x .speed → holdsBy held t (nextOf T x) ≡ true
+    move-held : ownLength T x ≤ x .position + x .speed → holdsNext T held t x ≡ true
     move-held past =
-        by-test (holdsBy held t (nextOf T x)) (λ e. e) (λ e. absurd (omega (arith, later-stops e, S-above (T .braking) (K .rate) (x .speed))))
+        by-test (holdsNext T held t x) (λ e. e) (λ e. absurd (omega (arith, later-stops e, S-above (T .braking) (K .rate) (x .speed))))
 
     -- it stands on its next, which rises above its old segment and is long enough to stop in
     pub move-ok :
         (held′ : ℕ → ℕ) → ownLength T x ≤ x .position + x .speed
-        → ((s : ℕ) → held s ≡ t → (s ≡ ownOf T x → ⊥) → held′ s ≡ t)
-        → ((s : ℕ) → held′ s ≡ t → (held s ≡ t) × (s ≡ ownOf T x → ⊥))
-        → TrainOk T 0 held′ t (movedTo x (x .place + 1) (x .position + x .speed - ownLength T x)) (way + x .speed) got
+        → ((s : ℕ) → held s ≡ t → occupied T x s ≡ false → held′ s ≡ t)
+        → ((s : ℕ) → held′ s ≡ t → (held s ≡ t) × (occupied T x s ≡ false))
+        → TrainOk T speedDue held′ t (movedTo x (x .place + 1) (x .position + x .speed - ownLength T x)) (way + x .speed) got
     unfolding ownIn
     move-ok held′ past to from =
+        let y : Train = movedTo x (x .place + 1) (x .position + x .speed - ownLength T x) in
         let n = move-held past in
-        let p = held-next held t (nextOf T x) n in
+        let p = held-next held t x n in
         let s = next-is x (ok .onRoute) (p .0) in
         let up = K .rises (ownOf T x) (nextOf T x) (own-is x (ok .onRoute)) (s .follows) in
         let long = K .long (nextOf T x) (s .segment) in
@@ -295,8 +304,14 @@ module _ (T : Tables) (K : Consistent T) where
           onRoute = record { routeLow = ok .onRoute .routeLow; routeHigh = ok .onRoute .routeHigh; placeLow = omega arith; placeHigh = omega (arith, s .later) };
           inside = rw e (omega (arith, ok .inside, ok .slow));
           slow = rw e (ok .nextSlow n (omega arith) past);
-          holds = rw e (to (nextOf T x) (p .1) (λ q. omega arith));
-          only = λ z h. cases (ok .only z (from z h .0)) (λ q. absurd (from z h .1 q)) (λ q. inl (rw e (q .1)));
+          holds =
+              λ z h.
+              let q : nextOf T x ≡ z = s .same ∙ occupied-own T y h in
+              rw (← q) (to (nextOf T x) (p .1) (not-occupied T x (λ r. omega arith)));
+          only =
+              λ z h.
+              cases (ok .only z (from z h .0)) (λ q. not-both (occupied T x z) q (from z h .1))
+              (λ q. inl (own-occupied T y (e ∙ ahead-next T x (q .0) .1)));
           stops = λ o. rw e (omega (arith, run-now (T .braking) (x .speed), ok .inside, S-B (T .braking) (K .rate) (x .speed), in-margin x (ok .onRoute) (x .speed) (ok .slow)));
           nextSlow = λ o d h. absurd (omega arith);
           walked = omega (arith, ok .walked, w);
@@ -305,18 +320,17 @@ module _ (T : Tables) (K : Consistent T) where
 
   -- what the definition of a move makes of a train: further in its segment, or on to its next
   pub position-ok :
-      (held held′ : ℕ → ℕ) (t : ℕ) (x : Train) (way : ℕ) (got : ℕ → Bool) → TrainOk T 3 held t x way got
+      (held held′ : ℕ → ℕ) (t : ℕ) (x : Train) (way : ℕ) (got : ℕ → Bool) → TrainOk T positionDue held t x way got
       → ((s : ℕ) → held s ≡ t → released T x s ≡ false → held′ s ≡ t)
       → ((s : ℕ) → held′ s ≡ t → (held s ≡ t) × (released T x s ≡ false))
-      → TrainOk T 0 held′ t (moved T x) (way + x .speed) got
+      → TrainOk T speedDue held′ t (moved T x) (way + x .speed) got
   unfolding movesIn movedIn released
   position-ok held held′ t x way got ok to from =
       by-test (movesOn T x)
       (λ goes.
       let f = simp facts at goes in
       rw goes
-      (move-ok held t x way got ok held′ (omega arith) (λ s e n. to s e (rw goes (ne-eqb (ownOf T x) s (λ q. n (sym q)))))
-      (λ s e. (from s e .0, λ q. not-both (eqb (ownOf T x) s) (eq-eqb (ownOf T x) s (sym q)) (rw goes at (from s e .1))))))
+      (move-ok held t x way got ok held′ (omega arith) (λ s e n. to s e (rw goes n)) (λ s e. (from s e .0, rw goes at (from s e .1)))))
       (λ stays.
       let h = rw (lt-ltb 0 (x .route) (ok .onRoute .routeLow)) at stays in
       let f = simp facts at h in
@@ -326,10 +340,10 @@ module _ (T : Tables) (K : Consistent T) where
   pub enter-ok :
       (due : ℕ) (held : ℕ → ℕ) (t r v : ℕ) (got : ℕ → Bool)
       → 1 ≤ r → r ≤ T .routes → v ≤ ownLimit T (entered r v)
-      → held (ownOf T (entered r v)) ≡ t
-      → ((s : ℕ) → held s ≡ t → s ≡ ownOf T (entered r v))
+      → ((s : ℕ) → occupied T (entered r v) s ≡ true → held s ≡ t)
+      → ((s : ℕ) → held s ≡ t → occupied T (entered r v) s ≡ true)
       → TrainOk T due held t (entered r v) 0 got
-  unfolding startAfter runIn nearIn wantsIn
+  unfolding startAfter toRun wants
   enter-ok due held t r v got low high slow h only =
       let o : OnRoute T r 1 = record { routeLow = low; routeHigh = high; placeLow = omega arith; placeHigh = K .counted r low high .0 } in
       let long = K .long (ownOf T (entered r v)) (own-is (entered r v) o) in
@@ -342,8 +356,8 @@ module _ (T : Tables) (K : Consistent T) where
         only = λ s e. inl (only s e);
         stops =
             λ q.
-            if-case (λ (w : ℕ). 0 + w < ownLength T (entered r v)) (eqb due 0) (λ e. omega (arith, S-B (T .braking) (K .rate) v)) (λ e. omega arith);
+            if-case (λ (w : ℕ). 0 + w < ownLength T (entered r v)) (eqb due speedDue) (λ e. omega (arith, S-B (T .braking) (K .rate) v)) (λ e. omega arith);
         nextSlow = λ q d e. absurd (omega (arith, S-above (T .braking) (K .rate) v));
         walked = refl;
-        asksWell = rw (lt-leb (ownLength T (entered r v) - T .margin) 0 (omega arith)) (sym (and-false (eqb due 2)));
+        asksWell = rw (lt-leb (ownLength T (entered r v) - T .margin) 0 (omega arith)) (sym (and-false (eqb due grantDue)));
       }

@@ -1,15 +1,18 @@
 -- The conditions of "A sound record" (document 01) on one train and on one allocation.
--- T are the tables of the area, A its allocations, due the step due, t the number of a train, x the train, s a segment, h who holds it.
+-- T are the tables of the area, A its allocations, due the step due, t the number of a train, x the train, p where it stands, s a
+-- segment, h who holds it.
 use Prim.Native.Nat.{ℕ, _+_}
 use mathlib.Core.Bool.{Bool, not, _&&_, _||_}
 use mathlib.Core.List.{List}
 use lib.Dec.{leb, ltb, eqb}
-use Rattle.lists.specs.Words.{if_then_else_, at}
+use Rattle.lists.specs.Words.{if_then_else_, _⇔_, at}
 use Rattle.braking.specs.Braking.{S, B}
 use Rattle.tables.specs.declared.Tables.{Tables}
-use Rattle.tables.specs.Tables.{countOf}
 use Rattle.trains.specs.declared.Train.{Train}
-use Rattle.trains.specs.Train.{trainAt, isOn, ownOf, ownLength, ownLimit, nextLimit, holdsNext, occupied, ahead}
+use Rattle.trains.specs.declared.Spot.{Spot}
+use Rattle.trains.specs.Due.{speedDue, grantDue}
+use Rattle.trains.specs.Train.{trainAt, isOn, occupied, ahead}
+use Rattle.trains.specs.Spot.{spotOf}
 use Rattle.trains.specs.Cycle.{wants}
 
 -- a train off is all zero
@@ -17,42 +20,35 @@ abbrev pub offSound : Train → Bool
 offSound x = eqb (x .place) 0 && eqb (x .position) 0 && eqb (x .speed) 0 && not (x .asks)
 
 -- a train on: route 1 to R, place 1 to the route's count, position < length, speed ≤ limit; its own segment is allocated to it
-unfoldable pub placeIn : (R count length limit holder t : ℕ) → Train → Bool
-placeIn R count length limit holder t x =
-    leb (x .route) R && leb 1 (x .place) && leb (x .place) count && ltb (x .position) length && leb (x .speed) limit && eqb holder t
-
-abbrev pub placeSound : Tables → List ℕ → ℕ → Train → Bool
-placeSound T A t x = placeIn (T .routes) (countOf (T .routebytes) (x .route)) (ownLength T x) (ownLimit T x) (at A (ownOf T x)) t x
+unfoldable pub placeSound : (R : ℕ) → Spot → Train → Bool
+placeSound R p x =
+    leb (x .route) R && leb 1 (x .place) && leb (x .place) (p .count)
+    && ltb (x .position) (p .length) && leb (x .speed) (p .limit) && p .held
 
 -- the way still to run under full braking: B(speed) with speed due, S(speed) with another step due
-unfoldable pub runIn : (b due speed : ℕ) → ℕ
-runIn b due v = if eqb due 0 then B b v else S b v
-
-abbrev pub toRun : Tables → ℕ → ℕ → ℕ
-toRun T due v = runIn (T .braking) due v
+unfoldable pub toRun : (b due speed : ℕ) → ℕ
+toRun b due v = if eqb due speedDue then B b v else S b v
 
 -- while next is not allocated to it, or there is none: position + the way still to run < length;
 -- while it is, another step is due and position + speed ≥ length: speed ≤ next's limit
-unfoldable pub brakingIn : (b due length nextLimit : ℕ) (holds : Bool) → Train → Bool
-brakingIn b due length nextLimit holds x =
-    if holds
-    then eqb due 0 || ltb (x .position + x .speed) length || leb (x .speed) nextLimit
-    else ltb (x .position + runIn b due (x .speed)) length
-
-abbrev pub brakingSound : Tables → List ℕ → ℕ → ℕ → Train → Bool
-brakingSound T A due t x = brakingIn (T .braking) due (ownLength T x) (nextLimit T x) (holdsNext T A t x) x
+unfoldable pub brakingSound : (b due : ℕ) → Spot → Train → Bool
+brakingSound b due p x =
+    if p .holds
+    then eqb due speedDue || ltb (x .position + x .speed) (p .length) || leb (x .speed) (p .nextlimit)
+    else ltb (x .position + toRun b due (x .speed)) (p .length)
 
 -- it asks exactly when grant is due, it is near and next exists and isn't its own
-unfoldable pub askingIn : (due : ℕ) (wanting asks : Bool) → Bool
-askingIn due wanting asks = if asks then eqb due 2 && wanting else not (eqb due 2 && wanting)
+unfoldable pub askingSound : (due : ℕ) → Spot → Train → Bool
+askingSound due p x = x .asks ⇔ (eqb due grantDue && wants p)
 
-abbrev pub askingSound : Tables → List ℕ → ℕ → ℕ → Train → Bool
-askingSound T A due t x = askingIn due (wants T A t x) (x .asks)
+-- all of it, of a train that stands at p
+unfoldable pub standsSound : (R b due : ℕ) → Spot → Train → Bool
+standsSound R b due p x = if isOn x then placeSound R p x && brakingSound b due p x && askingSound due p x else offSound x
 
-unfoldable pub trainSound : Tables → List ℕ → ℕ → ℕ → Train → Bool
-trainSound T A due t x = if isOn x then placeSound T A t x && brakingSound T A due t x && askingSound T A due t x else offSound x
+abbrev pub trainSound : Tables → List ℕ → ℕ → ℕ → Train → Bool
+trainSound T A due t x = standsSound (T .routes) (T .braking) due (spotOf T (at A) t x) x
 
--- an allocation is 0 or the number of a train on, whose own segment or next it is, no other; above N it is 0
+-- an allocation is 0 or the number of a train on, under which the segment is or ahead of which it may be allocated; above N it is 0
 unfoldable pub allocationSound : Tables → List Train → ℕ → ℕ → Bool
 allocationSound T trains s h =
     eqb h 0 || (leb s (T .segments) && isOn (trainAt trains h) && (occupied T (trainAt trains h) s || ahead T (trainAt trains h) s))

@@ -10,7 +10,9 @@ use Rattle.lists.specs.Words.{at}
 use Rattle.tables.specs.declared.Tables.{Tables}
 use Rattle.tables.specs.Tables.{countOf}
 use Rattle.trains.specs.declared.Train.{Train}
-use Rattle.trains.specs.Train.{trainAt, ownOf, nextOf, ownLength, ownLimit, nextLimit, holdsNext}
+use Rattle.trains.specs.Due.{speedDue, grantDue}
+use Rattle.trains.specs.Train.{trainAt, ownLength, ownLimit, nextLimit, holdsNext, occupied, ahead}
+use Rattle.trains.specs.Spot.{spotOf}
 use Rattle.trains.specs.Cycle.{wants}
 use Rattle.trains.specs.Sound.{toRun}
 
@@ -20,15 +22,16 @@ pub record SoundTrain (T : Tables) (A : List ℕ) (due t : ℕ) (x : Train) : Ty
   pub place : (1 ≤ x .place) × (x .place ≤ countOf (T .routebytes) (x .route))
   pub position : x .position < ownLength T x
   pub speed : x .speed ≤ ownLimit T x
-  pub own : at A (ownOf T x) ≡ t
+  -- every segment under it is allocated to it
+  pub own : (s : ℕ) → occupied T x s ≡ true → at A s ≡ t
   -- while next is not allocated to it, or there is none
-  pub stops : holdsNext T A t x ≡ false → x .position + toRun T due (x .speed) < ownLength T x
+  pub stops : holdsNext T (at A) t x ≡ false → x .position + toRun (T .braking) due (x .speed) < ownLength T x
   -- while next is allocated to it, another step is due and position + speed ≥ length
-  pub next : holdsNext T A t x ≡ true → 1 ≤ due → ownLength T x ≤ x .position + x .speed → x .speed ≤ nextLimit T x
-  pub asks : x .asks ≡ (eqb due 2 && wants T A t x)
+  pub next : holdsNext T (at A) t x ≡ true → speedDue < due → ownLength T x ≤ x .position + x .speed → x .speed ≤ nextLimit T x
+  pub asks : x .asks ≡ (eqb due grantDue && wants (spotOf T (at A) t x))
 
 -- an allocation that is not 0
 pub record SoundAllocation (T : Tables) (trains : List Train) (s h : ℕ) : Type 0 where
   pub segment : s ≤ T .segments
   pub on : 1 ≤ trainAt trains h .route
-  pub whose : (ownOf T (trainAt trains h) ≡ s) ⊎ (nextOf T (trainAt trains h) ≡ s)
+  pub whose : (occupied T (trainAt trains h) s ≡ true) ⊎ (ahead T (trainAt trains h) s ≡ true)

@@ -1,21 +1,30 @@
--- What the tables and the allocations say of a train where it stands, gathered once for the tests of a step.
-use Prim.Native.Nat.{ℕ}
+-- Where a train stands: what the tables and the allocations say of it there. The conditions and steps of a train read this.
+-- T are the tables of the area, `held` says who holds a segment, t is the number of the train, x the train.
+use Prim.Native.Nat.{ℕ, _-_}
+use mathlib.Core.Bool.{_&&_}
 use mathlib.Core.List.{List}
+use lib.Dec.{leb, ltb, eqb}
 use Rattle.lists.specs.Words.{at}
+use Rattle.tables.specs.declared.Tables.{Tables}
 use Rattle.tables.specs.Tables.{countOf}
 use Rattle.trains.specs.declared.Train.{Train}
 use Rattle.trains.specs.declared.Spot.{Spot}
-use Rattle.trains.specs.Train.{ownIn, nextIn, holdsIn}
+use Rattle.trains.specs.Train.{ownIn, nextIn}
 
-abbrev pub spotIn : (routebytes lengths limits A : List ℕ) (t : ℕ) → Train → Spot
-spotIn routebytes lengths limits A t x =
+-- its route's count; its own segment's length and limit, and whether that is allocated to it; its next, the limit there, and
+-- whether it exists and is allocated to it; near
+abbrev pub spotIn : (routebytes lengths limits : List ℕ) (d : ℕ) (held : ℕ → ℕ) (t : ℕ) → Train → Spot
+spotIn routebytes lengths limits d held t x =
     record {
       count = countOf routebytes (x .route);
-      own = ownIn routebytes x;
-      holder = at A (ownIn routebytes x);
       length = at lengths (ownIn routebytes x);
       limit = at limits (ownIn routebytes x);
+      held = eqb (held (ownIn routebytes x)) t;
       next = nextIn routebytes x;
       nextlimit = at limits (nextIn routebytes x);
-      holds = holdsIn A t (nextIn routebytes x);
+      holds = ltb 0 (nextIn routebytes x) && eqb (held (nextIn routebytes x)) t;
+      near = leb (at lengths (ownIn routebytes x) - d) (x .position);
     }
+
+abbrev pub spotOf : Tables → (held : ℕ → ℕ) → ℕ → Train → Spot
+spotOf T = spotIn (T .routebytes) (T .lengths) (T .limits) (T .margin)

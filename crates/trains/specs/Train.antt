@@ -1,5 +1,5 @@
--- A train of an area: the five ways in which one is written, and what is said of one (document 01, "The calls").
--- T are the tables of the area, A its allocations, t the number of the train, x the train.
+-- A train of an area: the five forms in which one is written, and what is said of one (document 01, "The calls").
+-- T are the tables of the area, t the number of the train, x the train, s a segment.
 use Prim.Native.Nat.{ℕ, _+_, _-_}
 use mathlib.Core.Bool.{Bool, false, _&&_}
 use mathlib.Core.List.{List}
@@ -64,27 +64,30 @@ abbrev pub nextLimit : Tables → Train → ℕ
 nextLimit T x = at (T .limits) (nextOf T x)
 
 -- **near**: position ≥ length - `d`
-unfoldable pub nearIn : (length d position : ℕ) → Bool
-nearIn length d position = leb (length - d) position
-
 abbrev pub near : Tables → Train → Bool
-near T x = nearIn (ownLength T x) (T .margin) (x .position)
+near T x = leb (ownLength T x - T .margin) (x .position)
 
--- next exists and is allocated to it
-unfoldable pub holdsIn : (A : List ℕ) (t next : ℕ) → Bool
-holdsIn A t next = ltb 0 next && eqb (at A next) t
-
-abbrev pub holdsNext : Tables → List ℕ → ℕ → Train → Bool
-holdsNext T A t x = holdsIn A t (nextOf T x)
+-- next exists and is allocated to it. `held` says who holds a segment
+abbrev pub holdsNext : Tables → (held : ℕ → ℕ) → ℕ → Train → Bool
+holdsNext T held t x = ltb 0 (nextOf T x) && eqb (held (nextOf T x)) t
 
 -- the segments under the train: its own
+unfoldable pub occupiedIn : (routebytes : List ℕ) → Train → ℕ → Bool
+occupiedIn routebytes x s = eqb (ownIn routebytes x) s
+
 abbrev pub occupied : Tables → Train → ℕ → Bool
-occupied T x s = eqb (ownOf T x) s
+occupied T = occupiedIn (T .routebytes)
 
--- the segments that may be allocated to it ahead of its front: its next
+-- the segments that may be allocated to it ahead of its front: its next, where there is one
+unfoldable pub aheadIn : (routebytes : List ℕ) → Train → ℕ → Bool
+aheadIn routebytes x s = ltb 0 s && eqb (nextIn routebytes x) s
+
 abbrev pub ahead : Tables → Train → ℕ → Bool
-ahead T x s = eqb (nextOf T x) s
+ahead T = aheadIn (T .routebytes)
 
--- what it asks for: its next
+-- what it asks for: its next, 0 if there is none
+unfoldable pub wantedIn : (routebytes : List ℕ) → Train → ℕ
+wantedIn routebytes x = nextIn routebytes x
+
 abbrev pub wanted : Tables → Train → ℕ
-wanted T x = nextOf T x
+wanted T = wantedIn (T .routebytes)

@@ -1,8 +1,11 @@
 // A train of an area by value, and where one stands. The tables' arrays are lent.
 ghost use mathlib.Core.Path.{_≡_};
-ghost use Rattle.trains.specs.Train.{off, entered, withSpeed, withAsking, movedTo, trainAt, ownIn, nextIn, nearIn, holdsIn};
+ghost use Prim.Native.Nat.{_-_};
+ghost use lib.Dec.{leb, eqb};
+ghost use Rattle.lists.specs.Words.{at, each};
+ghost use Rattle.trains.specs.Train.{off, entered, withSpeed, withAsking, movedTo, trainAt, ownIn, nextIn, occupiedIn, aheadIn, wantedIn};
 ghost use Rattle.trains.specs.Spot.{spotIn};
-ghost use Rattle.trains.specs.Cycle.{wantsIn};
+ghost use Rattle.trains.specs.Cycle.{wants};
 use lists::entry_u8;
 use lists::entry_u16;
 use lists::entry_u32;
@@ -17,20 +20,20 @@ pub struct Train {
     pub asks: bool,
 }
 
-// What the tables and the allocations say of a train where it stands: its route's count, its own segment, who holds that, its
-// length and limit; its next, the limit there, and whether that is allocated to the train.
+// Where a train stands: its route's count; its own segment's length and limit, and whether that is allocated to it; its next, the
+// limit there, and whether that is allocated to it; near.
 pub struct Spot {
     pub count: u8,
-    pub own: u8,
-    pub holder: u8,
     pub length: u32,
     pub limit: u16,
+    pub held: bool,
     pub next: u8,
     pub nextlimit: u16,
     pub holds: bool,
+    pub near: bool,
 }
 
-// ---- the five ways in which a train is written
+// ---- the five forms in which a train is written
 pub fn train_off() -> Train
     ensures { λ r. ⌜ r ≡ off ⌝ }
 {
@@ -120,8 +123,27 @@ pub fn next_of(routebytes: &[u8; 960], x: Train) -> u8
     0
 }
 
-pub fn is_near(length: u32, margin: u32, position: u32) -> bool
-    ensures { λ r. ⌜ r ≡ nearIn length margin position ⌝ }
+// The segments under the train, those that may be allocated to it ahead of its front, and what it asks for.
+pub fn is_occupied(routebytes: &[u8; 960], x: Train, s: u8) -> bool
+    ensures { λ r. ⌜ r ≡ occupiedIn (now (routebytes .entry)) x s ⌝ }
+{
+    own_of(routebytes, x) == s
+}
+
+pub fn is_ahead(routebytes: &[u8; 960], x: Train, s: u8) -> bool
+    ensures { λ r. ⌜ r ≡ aheadIn (now (routebytes .entry)) x s ⌝ }
+{
+    (0 < s) & (next_of(routebytes, x) == s)
+}
+
+pub fn wanted_of(routebytes: &[u8; 960], x: Train) -> u8
+    ensures { λ r. ⌜ r ≡ wantedIn (now (routebytes .entry)) x ⌝ }
+{
+    next_of(routebytes, x)
+}
+
+fn is_near(length: u32, margin: u32, position: u32) -> bool
+    ensures { λ r. ⌜ r ≡ leb (length - margin) position ⌝ }
 {
     if length <= margin {
         return true;
@@ -129,10 +151,11 @@ pub fn is_near(length: u32, margin: u32, position: u32) -> bool
     length - margin <= position
 }
 
-fn holds_next(allocations: &[u8; 62], t: u8, next: u8) -> bool
-    ensures { λ r. ⌜ r ≡ holdsIn (now (allocations .entry)) t next ⌝ }
+// Segment s is allocated to train t.
+fn is_held(allocations: &[u8; 62], s: u8, t: u8) -> bool
+    ensures { λ r. ⌜ r ≡ eqb (at (now (allocations .entry)) s) t ⌝ }
 {
-    (0 < next) & (entry_u8(allocations, next as usize) == t)
+    entry_u8(allocations, s as usize) == t
 }
 
 pub fn spot_of<'a>(
@@ -140,28 +163,73 @@ pub fn spot_of<'a>(
     lengths: &'a [u32; 62],
     limits: &'a [u16; 62],
     allocations: &'a [u8; 62],
+    margin: u32,
     t: u8,
     x: Train,
 ) -> Spot
-    ensures { λ r. ⌜ r ≡ spotIn (now (routebytes .entry)) (now (lengths .entry)) (now (limits .entry)) (now (allocations .entry)) t x ⌝ }
+    ensures { λ r. ⌜ r ≡ spotIn (now (routebytes .entry)) (now (lengths .entry)) (now (limits .entry)) margin (at (now (allocations .entry))) t x ⌝ }
 {
     let own = own_of(routebytes, x);
     let next = next_of(routebytes, x);
+    let length = entry_u32(lengths, own as usize);
     Spot {
         count: tables::count_of(routebytes, x.route),
-        own,
-        holder: entry_u8(allocations, own as usize),
-        length: entry_u32(lengths, own as usize),
+        length,
         limit: entry_u16(limits, own as usize),
+        held: is_held(allocations, own, t),
         next,
         nextlimit: entry_u16(limits, next as usize),
-        holds: holds_next(allocations, t, next),
+        holds: (0 < next) & is_held(allocations, next, t),
+        near: is_near(length, margin, x.position),
     }
 }
 
-// Near, with a next that is not allocated to it.
-pub fn wants_next(margin: u32, spot: Spot, x: Train) -> bool
-    ensures { λ r. ⌜ r ≡ wantsIn (nearIn (spot .length) margin (x .position)) (spot .holds) (spot .next) ⌝ }
+// Where no train stands.
+fn no_spot() -> Spot {
+    Spot {
+        count: 0,
+        length: 0,
+        limit: 0,
+        held: false,
+        next: 0,
+        nextlimit: 0,
+        holds: false,
+        near: false,
+    }
+}
+
+// Where each train stands.
+pub fn spots_of<'a>(
+    routebytes: &'a [u8; 960],
+    lengths: &'a [u32; 62],
+    limits: &'a [u16; 62],
+    allocations: &'a [u8; 62],
+    margin: u32,
+    trains: [Train; 24],
+) -> [Spot; 24]
+    ensures { λ r. ⌜ r ≡ each (spotIn (now (routebytes .entry)) (now (lengths .entry)) (now (limits .entry)) margin (at (now (allocations .entry)))) trains ⌝ }
 {
-    is_near(spot.length, margin, x.position) & (0 < spot.next) & !spot.holds
+    let mut new = [no_spot(); 24];
+    let mut i: usize = 0;
+    while i < 24 {
+        let x = trains[i];
+        new[i] = spot_of(
+            routebytes,
+            lengths,
+            limits,
+            allocations,
+            margin,
+            (i + 1) as u8,
+            x,
+        );
+        i += 1;
+    }
+    new
+}
+
+// Near, with a next that is not allocated to it.
+pub fn wants_next(spot: Spot) -> bool
+    ensures { λ r. ⌜ r ≡ wants spot ⌝ }
+{
+    spot.near & (0 < spot.next) & !spot.holds
 }

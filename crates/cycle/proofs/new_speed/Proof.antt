@@ -1,5 +1,5 @@
 use borrow.Author.Needs.{needs}
-use Rattle.trains.specs.Cycle.{speedIn}
+use Rattle.trains.specs.Cycle.{newSpeed}
 use Rattle.cycle.proofs.new_speed.Statement.{statement}
 use Rattle.cycle.proofs.new_speed.Tie as tie
 
@@ -7,11 +7,11 @@ lowered-requires : tie.Need-lowered-requires
 lowered-requires c κs = search needs
 
 returns : tie.Need-returns
-unfolding speedIn
-returns c = rw (c .if1 .taken) (c .before .before .lowered .ensures)
+unfolding newSpeed
+returns c = rw (c .if1 .taken) (c .before .before .before .lowered .ensures)
 
-highest-requires : tie.Need-highest-requires
-highest-requires c κs = search needs
+upper-end-requires : tie.Need-upper-end-requires
+upper-end-requires c κs = search needs
 
 smaller-requires : tie.Need-smaller-requires
 smaller-requires c κs = search needs
@@ -20,12 +20,12 @@ larger-requires : tie.Need-larger-requires
 larger-requires c κs = search needs
 
 returns-2 : tie.Need-returns-2
-unfolding speedIn
+unfolding newSpeed
 returns-2 c =
     rw (c .before .before .before .if1 .left)
-    (simp (c .larger .ensures, c .before .smaller .ensures, c .before .before .highest .ensures, c .before .before .before .before .before .lowered .ensures))
+    (simp (c .larger .ensures, c .before .smaller .ensures, c .before .before .upper-end .ensures, c .before .before .before .before .before .before .lowered .ensures))
 
 pub new-speed-spec : {M : Type 1} → statement M
 new-speed-spec =
     tie.close
-    (tie.spec lowered-requires returns highest-requires smaller-requires larger-requires returns-2)
+    (tie.spec lowered-requires returns upper-end-requires smaller-requires larger-requires returns-2)

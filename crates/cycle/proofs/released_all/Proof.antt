@@ -12,6 +12,7 @@ use Rattle.tables.specs.declared.Tables.{Tables}
 use Rattle.trains.specs.declared.Train.{Train}
 use Rattle.trains.specs.Train.{off, trainAt, ownOf}
 use Rattle.trains.specs.Cycle.{movesIn, movesOn, released, freed}
+use Rattle.trains.proofs.Segments.{occupied-test}
 use Rattle.cycle.proofs.released_all.Statement.{statement}
 use Rattle.cycle.proofs.released_all.Tie as tie
 
@@ -26,7 +27,7 @@ left-at T trains (suc n) = nth-each off 0 (λ (k : ℕ). left T) trains (suc n) 
 
 left-released : (T : Tables) (x : Train) (s : ℕ) → 1 ≤ s → eqb (left T x) s ≡ released T x s
 unfolding released
-left-released T x s some = by-test (movesOn T x) (λ e. rw e) (λ e. rw e (ne-eqb 0 s (λ z. omega arith)))
+left-released T x s some = by-test (movesOn T x) (λ e. rw (e, occupied-test T x s)) (λ e. rw e (ne-eqb 0 s (λ z. omega arith)))
 
 -- the train that holds a segment frees it where the list of what the trains free has it
 release-left :

@@ -1,17 +1,31 @@
-use Prim.Native.Nat.{_-_}
+-- The loop makes each train of the spot beside it; the spots are those of the same trains.
+use Prim.Native.Nat.{ℕ, _-_}
+use mathlib.Core.List.{List}
 use native.Mathlib.Omega.{arith}
 use borrow.Author.Needs.{needs}
-use Rattle.lists.proofs.Numbered.{long-of}
-use Rattle.trains.specs.Cycle.{sped}
+use Rattle.lists.specs.Words.{if_then_else_, nth, at}
+use Rattle.lists.proofs.Numbered.{long-of, nth-index, made-beside}
 use Rattle.lists.proofs.Loops.{Made, make-begin, make-more, make-over}
+use Rattle.trains.specs.declared.Train.{Train}
+use Rattle.trains.specs.declared.Spot.{Spot}
+use Rattle.trains.specs.Train.{off, withSpeed, isOn}
+use Rattle.trains.specs.Cycle.{newSpeed, sped}
+use Rattle.trains.proofs.Spots.{noSpot}
 use Rattle.cycle.proofs.sped_all.Statement.{statement}
 use Rattle.cycle.proofs.sped_all.Tie as tie
 
+-- what becomes of the train of a number that stands at a spot
+abbrev made : (b : ℕ) (wishes : List ℕ) → ℕ → Spot → Train → Train
+made b wishes n p x = if isOn x then withSpeed x (newSpeed b p x (at wishes n)) else x
+
 abbrev Inv-loop : tie.InvT-loop
-Inv-loop wishes tables allocations trains new₀ i₀ new i = Made 24 (sped tables allocations wishes) trains trains i new
+Inv-loop wishes tables trains spots new₀ i₀ new i = Made 24 (λ (n : ℕ) (x : Train). made (tables .braking) wishes n (nth noSpot spots n) x) trains trains i new
 
 abbrev μ-loop : tie.MeasureT-loop
-μ-loop wishes tables allocations trains new₀ i₀ new i = 24 - i
+μ-loop wishes tables trains spots new₀ i₀ new i = 24 - i
+
+spots-of-requires : tie.Need-spots-of-requires Inv-loop μ-loop
+spots-of-requires c κs = search needs
 
 loop-holds : tie.Need-loop-holds Inv-loop μ-loop
 loop-holds c = make-begin (search long-of) (search long-of)
@@ -22,14 +36,11 @@ mul-x c = omega arith
 array-copy-out-x : tie.Need-array-copy-out-x Inv-loop μ-loop
 array-copy-out-x c = omega arith
 
-add-t : tie.Need-add-t Inv-loop μ-loop
-add-t c = omega arith
+mul-spot : tie.Need-mul-spot Inv-loop μ-loop
+mul-spot c = omega arith
 
-cast-t : tie.Need-cast-t Inv-loop μ-loop
-cast-t c = omega arith
-
-spot-of-requires : tie.Need-spot-of-requires Inv-loop μ-loop
-spot-of-requires c κs = search needs
+array-copy-out-spot : tie.Need-array-copy-out-spot Inv-loop μ-loop
+array-copy-out-spot c = omega arith
 
 add-entry-u16 : tie.Need-add-entry-u16 Inv-loop μ-loop
 add-entry-u16 c = omega arith
@@ -53,14 +64,15 @@ loop-less : tie.Need-loop-less Inv-loop μ-loop
 loop-less c = omega arith
 
 loop-again : tie.Need-loop-again Inv-loop μ-loop
-unfolding sped
 loop-again c =
-    make-more (c .before .before .before .before .before .before .before .before .before .before .loop .inv) _
-    (c .before .before .before .before .before .before .before .before .before .loop-test .taken)
-    (rw (c .before .before .spot-of .ensures, c .before .entry-u16 .ensures) at (c .sped-train .ensures))
+    let l = c .before .before .before .before in
+    make-more (l .before .loop .inv) off (l .loop-test .taken) (rw nth-index (rw (c .before .entry-u16 .ensures) at (c .sped-train .ensures)))
 
 returns : tie.Need-returns Inv-loop μ-loop
-returns c = make-over (c .before .loop .inv) (c .loop-test .left)
+unfolding sped
+returns c =
+    let l = c .before in
+    made-beside noSpot _ (made _ _) _ (l .before .spots-of .ensures) (make-over (l .loop .inv) (c .loop-test .left))
 
 pub sped-all-spec : {M : Type 1} → statement M
 sped-all-spec =
@@ -68,12 +80,12 @@ sped-all-spec =
     (tie.spec
     Inv-loop
     μ-loop
+    spots-of-requires
     loop-holds
     mul-x
     array-copy-out-x
-    add-t
-    cast-t
-    spot-of-requires
+    mul-spot
+    array-copy-out-spot
     add-entry-u16
     entry-u16-requires
     sped-train-requires

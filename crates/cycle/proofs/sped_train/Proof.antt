@@ -6,9 +6,6 @@ use Rattle.cycle.proofs.sped_train.Tie as tie
 returns : tie.Need-returns
 returns c = rw (train-off (c .if1 .taken))
 
-is-near-requires : tie.Need-is-near-requires
-is-near-requires c κs = search needs
-
 new-speed-requires : tie.Need-new-speed-requires
 new-speed-requires c κs = search needs
 
@@ -17,8 +14,8 @@ with-speed-requires c κs = search needs
 
 returns-2 : tie.Need-returns-2
 returns-2 c =
-    simp (train-on (c .before .before .before .if1 .left), c .with-speed .ensures, c .before .new-speed .ensures, c .before .before .is-near .ensures)
+    simp (train-on (c .before .before .if1 .left), c .with-speed .ensures, c .before .new-speed .ensures)
 
 pub sped-train-spec : {M : Type 1} → statement M
 sped-train-spec =
-    tie.close (tie.spec returns is-near-requires new-speed-requires with-speed-requires returns-2)
+    tie.close (tie.spec returns new-speed-requires with-speed-requires returns-2)

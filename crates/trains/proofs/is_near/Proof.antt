@@ -2,13 +2,11 @@ use Prim.Native.Nat.{_-_}
 use mathlib.Core.Path.{sym}
 use native.Mathlib.Omega.{arith}
 use borrow.Author.Tests.{le-leb}
-use Rattle.trains.specs.Train.{nearIn}
 use borrow.Author.Needs.{needs}
 use Rattle.trains.proofs.is_near.Statement.{statement}
 use Rattle.trains.proofs.is_near.Tie as tie
 
 returns : tie.Need-returns
-unfolding nearIn
 returns c =
     let a = c .before .args in
     sym (le-leb (a .length - a .margin) (a .position) (omega arith))
@@ -17,7 +15,6 @@ sub-result : tie.Need-sub-result
 sub-result c = search needs
 
 returns-2 : tie.Need-returns-2
-unfolding nearIn
 returns-2 c = search needs
 
 pub is-near-spec : {M : Type 1} → statement M

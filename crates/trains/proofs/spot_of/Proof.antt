@@ -1,3 +1,4 @@
+-- Each field is what the look-up that fills it gives.
 use borrow.Author.Needs.{needs}
 use Rattle.trains.proofs.spot_of.Statement.{statement}
 use Rattle.trains.proofs.spot_of.Tie as tie
@@ -8,20 +9,14 @@ own-of-requires c κs = search needs
 next-of-requires : tie.Need-next-of-requires
 next-of-requires c κs = search needs
 
-count-of-requires : tie.Need-count-of-requires
-count-of-requires c κs = search needs
-
-cast-entry-u8 : tie.Need-cast-entry-u8
-cast-entry-u8 c = search needs
-
-entry-u8-requires : tie.Need-entry-u8-requires
-entry-u8-requires c κs = search needs
-
 cast-entry-u32 : tie.Need-cast-entry-u32
 cast-entry-u32 c = search needs
 
 entry-u32-requires : tie.Need-entry-u32-requires
 entry-u32-requires c κs = search needs
+
+count-of-requires : tie.Need-count-of-requires
+count-of-requires c κs = search needs
 
 cast-entry-u16 : tie.Need-cast-entry-u16
 cast-entry-u16 c = search needs
@@ -29,26 +24,35 @@ cast-entry-u16 c = search needs
 entry-u16-requires : tie.Need-entry-u16-requires
 entry-u16-requires c κs = search needs
 
+is-held-requires : tie.Need-is-held-requires
+is-held-requires c κs = search needs
+
 cast-entry-u16-2 : tie.Need-cast-entry-u16-2
 cast-entry-u16-2 c = search needs
 
 entry-u16-requires-2 : tie.Need-entry-u16-requires-2
 entry-u16-requires-2 c κs = search needs
 
-holds-next-requires : tie.Need-holds-next-requires
-holds-next-requires c κs = search needs
+is-held-requires-2 : tie.Need-is-held-requires-2
+is-held-requires-2 c κs = search needs
+
+is-near-requires : tie.Need-is-near-requires
+is-near-requires c κs = search needs
 
 returns : tie.Need-returns
 returns c =
+    let own = c .before .before .before .before in
+    let found = own .before .before .before .before in
     simp (
-      c .holds-next .ensures,
-      c .before .entry-u162 .ensures,
-      c .before .before .before .entry-u16 .ensures,
-      c .before .before .before .before .before .entry-u32 .ensures,
-      c .before .before .before .before .before .before .before .entry-u8 .ensures,
-      c .before .before .before .before .before .before .before .before .before .count-of .ensures,
-      c .before .before .before .before .before .before .before .before .before .before .next-of .ensures,
-      c .before .before .before .before .before .before .before .before .before .before .before .own-of .ensures,
+      c .is-near .ensures,
+      c .before .is-held2 .ensures,
+      c .before .before .entry-u162 .ensures,
+      own .is-held .ensures,
+      own .before .entry-u16 .ensures,
+      own .before .before .before .count-of .ensures,
+      found .entry-u32 .ensures,
+      found .before .before .next-of .ensures,
+      found .before .before .before .own-of .ensures,
     )
 
 pub spot-of-spec : {M : Type 1} → statement M
@@ -57,14 +61,14 @@ spot-of-spec =
     (tie.spec
     own-of-requires
     next-of-requires
-    count-of-requires
-    cast-entry-u8
-    entry-u8-requires
     cast-entry-u32
     entry-u32-requires
+    count-of-requires
     cast-entry-u16
     entry-u16-requires
+    is-held-requires
     cast-entry-u16-2
     entry-u16-requires-2
-    holds-next-requires
+    is-held-requires-2
+    is-near-requires
     returns)
