@@ -2,7 +2,7 @@
 ghost use mathlib.Core.Path.{_≡_};
 ghost use lib.Dec.{eqb};
 ghost use Rattle.lists.specs.Words.{if_then_else_, at, each, tabulate, _orElse_, least};
-ghost use Rattle.trains.specs.Train.{mostTrains, nextIn};
+ghost use Rattle.trains.specs.Train.{mostTrains, wantedIn};
 ghost use Rattle.trains.specs.Grant.{asked, granted, calmed};
 use lists::entry_u8;
 use tables::Tables;
@@ -10,10 +10,10 @@ use trains::Train;
 
 // The segment that a train asks for; 0 where it asks for none.
 fn asked_by(routebytes: &[u8; 960], x: Train) -> u8
-    ensures { λ r. ⌜ r ≡ (if x .asks then nextIn (now (routebytes .entry)) x else 0) ⌝ }
+    ensures { λ r. ⌜ r ≡ (if x .asks then wantedIn (now (routebytes .entry)) x else 0) ⌝ }
 {
     if x.asks {
-        return trains::next_of(routebytes, x);
+        return trains::wanted_of(routebytes, x);
     }
     0
 }

@@ -16,20 +16,21 @@ use Rattle.tables.specs.declared.Tables.{Tables}
 use Rattle.tables.specs.Facts.{Consistent}
 use Rattle.trains.specs.declared.Train.{Train}
 use Rattle.trains.specs.Train.{mostTrains, off, isOn, ownLimit, occupied, ahead}
-use Rattle.trains.specs.Sound.{placeSound, runIn, allocationSound}
+use Rattle.trains.specs.Spot.{spotOf}
+use Rattle.trains.specs.Sound.{placeSound, toRun, allocationSound}
 use Rattle.trains.proofs.Safety.{in-margin}
 use Rattle.trains.proofs.Soundness.{place-facts}
 
 -- the way still to run is at most S
-pub run-within : (b due v : ℕ) → 1 ≤ b → runIn b due v ≤ S b v
-unfolding runIn
+pub run-within : (b due v : ℕ) → 1 ≤ b → toRun b due v ≤ S b v
+unfolding toRun
 run-within b due v rate = if-case (λ (w : ℕ). w ≤ S b v) (eqb due 0) (λ e. omega (arith, S-B b rate v)) (λ e. omega arith)
 
 pub limit-stops :
-    (T : Tables) → Consistent T → (A : List ℕ) (t : ℕ) (x : Train) → 1 ≤ x .route → placeSound T A t x ≡ true
+    (T : Tables) → Consistent T → (held : ℕ → ℕ) (t : ℕ) (x : Train) → 1 ≤ x .route → placeSound (T .routes) (spotOf T held t x) x ≡ true
     → S (T .braking) (ownLimit T x) ≤ T .margin
-limit-stops T ok A t x on h =
-    let f = place-facts _ _ _ _ _ _ x h in
+limit-stops T ok held t x on h =
+    let f = place-facts (T .routes) (spotOf T held t x) x h in
     in-margin T ok x (record { routeLow = on; routeHigh = f .0; placeLow = f .1; placeHigh = f .2 }) (ownLimit T x) (le-refl (ownLimit T x))
 
 -- a segment's allocation, with the train of the slot k, which is the holder's where there is one

@@ -7,9 +7,8 @@ ghost use Rattle.lists.specs.Words.{if_then_else_, at, every};
 ghost use Rattle.braking.specs.Braking.{S};
 ghost use Rattle.tables.specs.Bounds.{mostSegments};
 ghost use Rattle.tables.specs.Facts.{Consistent};
-ghost use Rattle.trains.specs.Train.{mostTrains, trainAt, isOn, ownIn, nextIn, nearIn};
-ghost use Rattle.trains.specs.Cycle.{wantsIn};
-ghost use Rattle.trains.specs.Sound.{offSound, placeIn, runIn, brakingIn, askingIn, trainSound, allocationSound};
+ghost use Rattle.trains.specs.Train.{mostTrains, trainAt, isOn, occupiedIn, aheadIn};
+ghost use Rattle.trains.specs.Sound.{offSound, placeSound, toRun, brakingSound, askingSound, standsSound, trainSound, allocationSound};
 use tables::Tables;
 use trains::Spot;
 use trains::Train;
@@ -20,21 +19,21 @@ fn off_sound(x: Train) -> bool
     (x.place == 0) & (x.position == 0) & (x.speed == 0) & !x.asks
 }
 
-fn place_sound(routes: u8, spot: Spot, t: u8, x: Train) -> bool
-    ensures { λ r. ⌜ r ≡ placeIn routes (spot .count) (spot .length) (spot .limit) (spot .holder) t x ⌝ }
+fn place_sound(routes: u8, spot: Spot, x: Train) -> bool
+    ensures { λ r. ⌜ r ≡ placeSound routes spot x ⌝ }
 {
     (x.route <= routes)
         & (1 <= x.place)
         & (x.place <= spot.count)
         & (x.position < spot.length)
         & (x.speed <= spot.limit)
-        & (spot.holder == t)
+        & spot.held
 }
 
 // The way still to run: B(speed) with speed due, S(speed) with another step due.
 fn to_run(braking: u16, due: u8, speed: u16) -> u32
     requires { ⌜ 1 ≤ braking ⌝ }
-    ensures { λ r. ⌜ r ≡ runIn braking due speed ⌝ }
+    ensures { λ r. ⌜ r ≡ toRun braking due speed ⌝ }
 {
     let distance = braking::braking_distance(speed, braking);
     if due == 0 {
@@ -46,7 +45,7 @@ fn to_run(braking: u16, due: u8, speed: u16) -> u32
 // The braking sum is worked out only of a train so far along that it matters: before that S(speed) ≤ `d` keeps it within.
 fn braking_sound(braking: u16, margin: u32, due: u8, spot: Spot, x: Train) -> bool
     requires { ⌜ (1 ≤ braking) × (S braking (x .speed) ≤ margin) ⌝ }
-    ensures { λ r. ⌜ r ≡ brakingIn braking due (spot .length) (spot .nextlimit) (spot .holds) x ⌝ }
+    ensures { λ r. ⌜ r ≡ brakingSound braking due spot x ⌝ }
 {
     let position = x.position as u64;
     let length = spot.length as u64;
@@ -59,27 +58,28 @@ fn braking_sound(braking: u16, margin: u32, due: u8, spot: Spot, x: Train) -> bo
     position + (to_run(braking, due, x.speed) as u64) < length
 }
 
-fn asking_sound(margin: u32, due: u8, spot: Spot, x: Train) -> bool
-    ensures { λ r. ⌜ r ≡ askingIn due (wantsIn (nearIn (spot .length) margin (x .position)) (spot .holds) (spot .next)) (x .asks) ⌝ }
+fn asking_sound(due: u8, spot: Spot, x: Train) -> bool
+    ensures { λ r. ⌜ r ≡ askingSound due spot x ⌝ }
 {
-    let wants = (due == 2) & trains::wants_next(margin, spot, x);
+    let wants = (due == 2) & trains::wants_next(spot);
     if x.asks {
         return wants;
     }
     !wants
 }
 
-fn train_sound(routes: u8, braking: u16, margin: u32, due: u8, spot: Spot, t: u8, x: Train) -> bool
-    requires { ⌜ (1 ≤ braking) × (1 ≤ x .route → placeIn routes (spot .count) (spot .length) (spot .limit) (spot .holder) t x ≡ true → S braking (spot .limit) ≤ margin) ⌝ }
-    ensures { λ r. ⌜ r ≡ (if isOn x then placeIn routes (spot .count) (spot .length) (spot .limit) (spot .holder) t x && brakingIn braking due (spot .length) (spot .nextlimit) (spot .holds) x && askingIn due (wantsIn (nearIn (spot .length) margin (x .position)) (spot .holds) (spot .next)) (x .asks) else offSound x) ⌝ }
+// Of a train whose place is sound, S(limit) ≤ `d`.
+fn train_sound(routes: u8, braking: u16, margin: u32, due: u8, spot: Spot, x: Train) -> bool
+    requires { ⌜ (1 ≤ braking) × (1 ≤ x .route → placeSound routes spot x ≡ true → S braking (spot .limit) ≤ margin) ⌝ }
+    ensures { λ r. ⌜ r ≡ standsSound routes braking due spot x ⌝ }
 {
     if x.route == 0 {
         return off_sound(x);
     }
-    if !place_sound(routes, spot, t, x) {
+    if !place_sound(routes, spot, x) {
         return false;
     }
-    braking_sound(braking, margin, due, spot, x) & asking_sound(margin, due, spot, x)
+    braking_sound(braking, margin, due, spot, x) & asking_sound(due, spot, x)
 }
 
 // Tables are tested first: of consistent tables S(`gmax`) ≤ `d`.
@@ -87,27 +87,19 @@ pub fn trains_sound(tables: Tables, allocations: [u8; 62], due: u8, trains: [Tra
     requires { ⌜ Consistent tables ⌝ }
     ensures { λ r. ⌜ r ≡ every mostTrains (λ t. trainSound tables allocations due t (trainAt trains t)) ⌝ }
 {
+    let spots = trains::spots_of(
+        &tables.routebytes,
+        &tables.lengths,
+        &tables.limits,
+        &allocations,
+        tables.margin,
+        trains,
+    );
     let mut i: usize = 0;
     while i < 24 {
         let x = trains[i];
-        let t = (i + 1) as u8;
-        let spot = trains::spot_of(
-            &tables.routebytes,
-            &tables.lengths,
-            &tables.limits,
-            &allocations,
-            t,
-            x,
-        );
-        if !train_sound(
-            tables.routes,
-            tables.braking,
-            tables.margin,
-            due,
-            spot,
-            t,
-            x,
-        ) {
+        let spot = spots[i];
+        if !train_sound(tables.routes, tables.braking, tables.margin, due, spot, x) {
             return false;
         }
         i += 1;
@@ -127,14 +119,14 @@ fn slot_of(h: u8) -> usize
 }
 
 fn allocation_sound(routebytes: &[u8; 960], segments: u8, s: u8, h: u8, x: Train) -> bool
-    ensures { λ r. ⌜ r ≡ (eqb h 0 || (leb h mostTrains && leb s segments && isOn x && (eqb (ownIn (now (routebytes .entry)) x) s || eqb (nextIn (now (routebytes .entry)) x) s))) ⌝ }
+    ensures { λ r. ⌜ r ≡ (eqb h 0 || (leb h mostTrains && leb s segments && isOn x && (occupiedIn (now (routebytes .entry)) x s || aheadIn (now (routebytes .entry)) x s))) ⌝ }
 {
     if h == 0 {
         return true;
     }
-    let own = trains::own_of(routebytes, x);
-    let next = trains::next_of(routebytes, x);
-    (h <= 24) & (s <= segments) & (0 < x.route) & ((own == s) | (next == s))
+    let own = trains::is_occupied(routebytes, x, s);
+    let next = trains::is_ahead(routebytes, x, s);
+    (h <= 24) & (s <= segments) & (0 < x.route) & (own | next)
 }
 
 pub fn allocations_sound(tables: Tables, allocations: [u8; 62], trains: [Train; 24]) -> bool

@@ -1,17 +1,22 @@
+use Prim.Native.Nat.{ℕ}
+use mathlib.Core.Path.{_≡_, sym, _∙_}
+use mathlib.Core.Bool.{Bool, true}
 use borrow.Author.Needs.{needs}
-use Rattle.trains.specs.Train.{nextIn}
+use Rattle.lists.specs.Words.{if_then_else_}
 use Rattle.grant.proofs.asked_by.Statement.{statement}
 use Rattle.grant.proofs.asked_by.Tie as tie
 
-next-of-requires : tie.Need-next-of-requires
-next-of-requires c κs = search needs
+chosen : (b : Bool) (w : ℕ) → b ≡ true → (if b then w else 0) ≡ w
+chosen b w e = rw e
+
+wanted-of-requires : tie.Need-wanted-of-requires
+wanted-of-requires c κs = search needs
 
 returns : tie.Need-returns
-unfolding nextIn
-returns c = rw (c .before .if1 .taken) (c .next-of .ensures)
+returns c = c .wanted-of .ensures ∙ sym (chosen _ _ (c .before .if1 .taken))
 
 returns-2 : tie.Need-returns-2
 returns-2 c = search needs
 
 pub asked-by-spec : {M : Type 1} → statement M
-asked-by-spec = tie.close (tie.spec next-of-requires returns returns-2)
+asked-by-spec = tie.close (tie.spec wanted-of-requires returns returns-2)

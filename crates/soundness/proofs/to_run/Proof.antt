@@ -3,7 +3,7 @@ use borrow.Author.Needs.{needs}
 use borrow.Author.Tests.{eq-eqb, ne-eqb}
 use Rattle.braking.specs.Braking.{B}
 use Rattle.braking.proofs.Laws.{S-above}
-use Rattle.trains.specs.Sound.{runIn}
+use Rattle.trains.specs.Sound.{toRun}
 use Rattle.soundness.proofs.to_run.Statement.{statement}
 use Rattle.soundness.proofs.to_run.Tie as tie
 
@@ -16,11 +16,11 @@ sub-result c =
     omega (arith, c .before .braking-distance .ensures, S-above (a .braking) (c .before .before .pre) (a .speed))
 
 returns : tie.Need-returns
-unfolding runIn B
+unfolding toRun B
 returns c = simp (c .before .braking-distance .ensures, eq-eqb _ _ (c .if1 .taken))
 
 returns-2 : tie.Need-returns-2
-unfolding runIn
+unfolding toRun
 returns-2 c = simp (c .before .braking-distance .ensures, ne-eqb _ _ (c .if1 .left))
 
 pub to-run-spec : {M : Type 1} → statement M

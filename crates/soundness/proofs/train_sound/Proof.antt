@@ -1,3 +1,4 @@
+-- A train off by its own test; a train on by its place first, whose facts give the braking test its room.
 use mathlib.Core.Path.{_≡_}
 use mathlib.Core.Bool.{true}
 use native.Mathlib.Nat.{le-trans}
@@ -6,7 +7,7 @@ use borrow.Author.Needs.{needs}
 use borrow.Author.Tests.{lt-ltb}
 use Rattle.lists.proofs.Cases.{test-fails, test-holds}
 use Rattle.braking.proofs.Laws.{S-mono}
-use Rattle.trains.specs.Sound.{placeIn}
+use Rattle.trains.specs.Sound.{placeSound, standsSound}
 use Rattle.trains.proofs.Soundness.{place-facts}
 use Rattle.soundness.proofs.train_sound.Statement.{statement}
 use Rattle.soundness.proofs.train_sound.Tie as tie
@@ -15,12 +16,14 @@ off-sound-requires : tie.Need-off-sound-requires
 off-sound-requires c κs = search needs
 
 returns : tie.Need-returns
+unfolding standsSound
 returns c = simp (c .off-sound .ensures, c .before .if1 .taken)
 
 place-sound-requires : tie.Need-place-sound-requires
 place-sound-requires c κs = search needs
 
 returns-2 : tie.Need-returns-2
+unfolding standsSound
 returns-2 c =
     simp (
       lt-ltb 0 (c .before .before .before .before .args .x .route) (omega arith),
@@ -33,20 +36,20 @@ start c = c .before .before .before .before
 placed :
     (c : tie.Else2)
     → let a = start c .args in
-    let p = a .spot in
-    placeIn (a .routes) (p .count) (p .length) (p .limit) (p .holder) (a .t) (a .x) ≡ true
+    placeSound (a .routes) (a .spot) (a .x) ≡ true
 placed c = test-holds (c .before .place-sound .ensures) (c .if2 .left)
 
 braking-sound-requires : tie.Need-braking-sound-requires
 braking-sound-requires c κs =
     let s = start c in
-    let f = place-facts _ _ _ _ _ _ (s .args .x) (placed c) in
+    let f = place-facts (s .args .routes) (s .args .spot) (s .args .x) (placed c) in
     (s .pre .0, le-trans (S-mono (s .args .braking) (s .pre .0) _ _ (f .4)) (s .pre .1 (omega arith) (placed c)))
 
 asking-sound-requires : tie.Need-asking-sound-requires
 asking-sound-requires c κs = search needs
 
 returns-3 : tie.Need-returns-3
+unfolding standsSound
 returns-3 c =
     simp (
       lt-ltb 0 (start (c .before .before) .args .x .route) (omega arith),

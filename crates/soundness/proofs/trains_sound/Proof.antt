@@ -1,29 +1,58 @@
-use Prim.Native.Nat.{ℕ, _+_, _-_, _≤_}
-use mathlib.Core.Path.{_≡_, sym}
+-- The loop tests each train at the spot beside it; the spots are those of the same trains, so these are the tests of the record.
+use Prim.Native.Nat.{ℕ, _+_, _-_, _≤_, _<_}
+use mathlib.Core.Path.{_≡_, sym, ap, _∙_}
 use mathlib.Core.Bool.{Bool, true}
 use mathlib.Core.List.{List}
 use native.Mathlib.Omega.{arith}
+use lib.ListN.{length, getD}
 use borrow.Author.Needs.{needs}
-use Rattle.lists.specs.Words.{every}
+use Rattle.lists.specs.Words.{nth, at, each, every}
 use Rattle.lists.proofs.Cases.{test-fails, test-holds}
-use Rattle.lists.proofs.Loops.{every-none, every-more, every-fails}
-use Rattle.lists.proofs.Numbered.{nth-index}
+use Rattle.lists.proofs.Loops.{every-none, every-more, every-fails, every-same}
+use Rattle.lists.proofs.Numbered.{nth-index, nth-each-in, long-of}
+use Rattle.braking.specs.Braking.{S}
 use Rattle.tables.specs.declared.Tables.{Tables}
+use Rattle.tables.specs.Facts.{Consistent}
 use Rattle.trains.specs.declared.Train.{Train}
-use Rattle.trains.specs.Train.{mostTrains, trainAt}
-use Rattle.trains.specs.Sound.{trainSound}
+use Rattle.trains.specs.declared.Spot.{Spot}
+use Rattle.trains.specs.Train.{mostTrains, off, trainAt}
+use Rattle.trains.specs.Spot.{spotOf}
+use Rattle.trains.specs.Sound.{placeSound, standsSound, trainSound}
+use Rattle.trains.proofs.Spots.{noSpot}
 use Rattle.soundness.proofs.Laws.{limit-stops}
 use Rattle.soundness.proofs.trains_sound.Statement.{statement}
 use Rattle.soundness.proofs.trains_sound.Tie as tie
 
-abbrev sound : Tables → List ℕ → ℕ → List Train → ℕ → Bool
-sound tables allocations due trains t = trainSound tables allocations due t (trainAt trains t)
+-- the test of the train of a number at the spot of that number
+abbrev test : (T : Tables) (due : ℕ) (trains : List Train) (spots : List Spot) → ℕ → Bool
+test T due trains spots t = standsSound (T .routes) (T .braking) due (nth noSpot spots t) (trainAt trains t)
+
+-- of the spots of the same trains: each is its train's, and the tests are those of the record
+module _ (T : Tables) (A : List ℕ) (due : ℕ) (trains : List Train) (spots : List Spot) (long : length trains ≡ mostTrains) (e : spots ≡ each (spotOf T (at A)) trains) where
+  spot-at : (t : ℕ) → 1 ≤ t → t ≤ mostTrains → nth noSpot spots t ≡ spotOf T (at A) t (trainAt trains t)
+  spot-at t low high = ap (λ (l : List Spot). nth noSpot l t) e ∙ nth-each-in off noSpot (spotOf T (at A)) trains t low (omega arith)
+
+  all-tests : every mostTrains (test T due trains spots) ≡ every mostTrains (λ (t : ℕ). trainSound T A due t (trainAt trains t))
+  all-tests =
+      every-same mostTrains _ _ (λ t low high. ap (λ (p : Spot). standsSound (T .routes) (T .braking) due p (trainAt trains t)) (spot-at t low high))
+
+  stops-at :
+      Consistent T → (i : ℕ) → i < mostTrains → 1 ≤ getD trains i off .route
+      → placeSound (T .routes) (getD spots i noSpot) (getD trains i off) ≡ true → S (T .braking) (getD spots i noSpot .limit) ≤ T .margin
+  stops-at ok i below =
+      let s = spot-at (i + 1) (omega arith) (omega arith) in
+      let q : getD spots i noSpot ≡ spotOf T (at A) (i + 1) (getD trains i off) =
+      sym (nth-index noSpot spots i) ∙ (s ∙ ap (spotOf T (at A) (i + 1)) (nth-index off trains i)) in
+      rw q (limit-stops T ok (at A) (i + 1) (getD trains i off))
 
 abbrev Inv-loop : tie.InvT-loop
-Inv-loop due tables allocations trains i₀ i = (i ≤ mostTrains) × (every i (sound tables allocations due trains) ≡ true)
+Inv-loop due tables trains spots i₀ i = (i ≤ mostTrains) × (every i (test tables due trains spots) ≡ true)
 
 abbrev μ-loop : tie.MeasureT-loop
-μ-loop due tables allocations trains i₀ i = mostTrains - i
+μ-loop due tables trains spots i₀ i = mostTrains - i
+
+spots-of-requires : tie.Need-spots-of-requires Inv-loop μ-loop
+spots-of-requires c κs = search needs
 
 loop-holds : tie.Need-loop-holds Inv-loop μ-loop
 loop-holds c = (omega arith, every-none _)
@@ -34,35 +63,45 @@ mul-x c = omega arith
 array-copy-out-x : tie.Need-array-copy-out-x Inv-loop μ-loop
 array-copy-out-x c = omega arith
 
-add-t : tie.Need-add-t Inv-loop μ-loop
-add-t c = omega arith
+mul-spot : tie.Need-mul-spot Inv-loop μ-loop
+mul-spot c = omega arith
 
-cast-t : tie.Need-cast-t Inv-loop μ-loop
-cast-t c = omega arith
-
-spot-of-requires : tie.Need-spot-of-requires Inv-loop μ-loop
-spot-of-requires c κs = search needs
+array-copy-out-spot : tie.Need-array-copy-out-spot Inv-loop μ-loop
+array-copy-out-spot c = omega arith
 
 train-sound-requires : tie.Need-train-sound-requires Inv-loop μ-loop
 train-sound-requires c κs =
-    let s = c .before .before .before .before .before .before .before .before .before in
-    rw (c .spot-of .ensures) (s .pre .rate, limit-stops (s .args .t1) (s .pre) (s .args .t2) _ _)
+    let l = c .before .before in
+    let called = l .before .before in
+    let s = called .before .before .before .before .before .before in
+    let n : length (s .args .t4) ≡ mostTrains = search long-of in
+    (s .pre .rate, stops-at _ _ 0 _ _ n (called .spots-of .ensures) (s .pre) _ (l .loop-test .taken))
 
 abbrev turn : tie.After-train-sound Inv-loop μ-loop → tie.In-loop Inv-loop μ-loop
-turn c = c .before .before .before .before .before .before .before .before
+turn c = c .before .before .before
 
+abbrev start : tie.At-loop Inv-loop μ-loop → tie.Start Inv-loop μ-loop
+start l = l .before .before .before .before .before .before .before
+
+-- what a turn of the loop found
 here :
     (c : tie.After-train-sound Inv-loop μ-loop)
-    → let a = turn c .before .before .args in
-    c .train-sound .result ≡ sound (a .t1) (a .t2) (a .due) (a .t4) (turn c .before .loop .i + 1)
-unfolding trainSound
-here c = rw nth-index (rw (c .before .spot-of .ensures) at (c .train-sound .ensures))
+    → let l = turn c .before in
+    let a = start l .args in
+    c .train-sound .result ≡ test (a .t1) (a .due) (a .t4) (l .before .spots-of .result) (l .loop .i + 1)
+here c = rw (nth-index, nth-index) (c .train-sound .ensures)
+
+-- where the loop ends, what its tests come to is what the record's come to
+ends : (l : tie.At-loop Inv-loop μ-loop) → let a = start l .args in every mostTrains (test (a .t1) (a .due) (a .t4) (l .before .spots-of .result)) ≡ every mostTrains (λ (t : ℕ). trainSound (a .t1) (a .t2) (a .due) t (trainAt (a .t4) t))
+ends l =
+    let a = start l .args in
+    let n : length (a .t4) ≡ mostTrains = search long-of in
+    all-tests (a .t1) (a .t2) (a .due) (a .t4) _ n (l .before .spots-of .ensures)
 
 returns : tie.Need-returns Inv-loop μ-loop
 returns c =
-    let t = turn (c .before) in
-    let a = t .before .before .args in
-    sym (every-fails (sound (a .t1) (a .t2) (a .due) (a .t4)) mostTrains (t .before .loop .i + 1) (omega arith) (omega arith) (test-fails (here (c .before)) (c .if1 .taken)))
+    let l = turn (c .before) in
+    sym (sym (ends (l .before)) ∙ every-fails _ mostTrains (l .before .loop .i + 1) (omega arith) (omega arith) (test-fails (here (c .before)) (c .if1 .taken)))
 
 add-i : tie.Need-add-i Inv-loop μ-loop
 add-i c = omega arith
@@ -76,9 +115,9 @@ loop-again c =
 
 returns-2 : tie.Need-returns-2 Inv-loop μ-loop
 returns-2 c =
-    let l = c .before .loop in
-    let e : l .i ≡ mostTrains = omega arith in
-    sym (rw e at (l .inv .1))
+    let l = c .before in
+    let e : l .loop .i ≡ mostTrains = omega arith in
+    sym (sym (ends l) ∙ (rw e at (l .loop .inv .1)))
 
 pub trains-sound-spec : {M : Type 1} → statement M
 trains-sound-spec =
@@ -86,12 +125,12 @@ trains-sound-spec =
     (tie.spec
     Inv-loop
     μ-loop
+    spots-of-requires
     loop-holds
     mul-x
     array-copy-out-x
-    add-t
-    cast-t
-    spot-of-requires
+    mul-spot
+    array-copy-out-spot
     train-sound-requires
     returns
     add-i
