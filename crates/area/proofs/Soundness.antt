@@ -12,7 +12,9 @@ use Rattle.lists.proofs.Loops.{every-at, every-all}
 use Rattle.lists.proofs.Numbered.{nth-zero, nth-out}
 use Rattle.tables.specs.Bounds.{mostSegments}
 use Rattle.tables.proofs.Consistency.{consistent, meets-iff}
-use Rattle.trains.specs.Train.{mostTrains, off, trainAt, ownOf, holdsIn}
+use Rattle.trains.specs.Due.{positionDue}
+use Rattle.trains.specs.Train.{mostTrains, off, trainAt, ownOf}
+use Rattle.trains.specs.Spot.{spotOf}
 use Rattle.trains.specs.Cycle.{low, upperEnd}
 use Rattle.trains.specs.Sound.{trainSound, allocationSound}
 use Rattle.trains.proofs.Safety.{own-is, low-high}
@@ -42,7 +44,7 @@ module _ (a : Area) where
       let each-segment = every-at allocationTest mostSegments (f .1) in
       record {
         tables = meets-iff (a .tables) .0 (f .0 .0 .0);
-        due = leb-true (a .due) 3 (f .0 .0 .1);
+        due = leb-true (a .due) positionDue (f .0 .0 .1);
         offs = λ t low high z. off-iff (a .tables) (a .allocations) (a .due) t (trainAt (a .trains) t) z .0 (each-train t low high);
         ons = λ t low high o. train-iff (a .tables) (a .allocations) (a .due) t (trainAt (a .trains) t) o .0 (each-train t low high);
         allocations =
@@ -67,7 +69,7 @@ module _ (a : Area) where
       (λ g. allocation-iff (a .tables) (a .trains) s (at (a .allocations) s) (omega arith) .1 g)) in
       rw (
         meets-iff (a .tables) .1 (f .tables),
-        le-leb (a .due) 3 (f .due),
+        le-leb (a .due) positionDue (f .due),
         every-all trainTest mostTrains each-train,
         every-all allocationTest mostSegments each-segment,
       )
@@ -79,8 +81,7 @@ module _ (a : Area) where
 -- THE CLAIM: in a sound record low ≤ the upper end of every train's speed range
 pub range-sound :
     (a : Area) → SoundArea a → (t : ℕ) → 1 ≤ t → t ≤ mostTrains → 1 ≤ trainAt (a .trains) t .route
-    → low (a .tables) (trainAt (a .trains) t) ≤ upperEnd (a .tables) (a .allocations) t (trainAt (a .trains) t)
-unfolding holdsIn
+    → low (a .tables .braking) (trainAt (a .trains) t) ≤ upperEnd (spotOf (a .tables) (at (a .allocations)) t (trainAt (a .trains) t))
 range-sound a f t from to on =
     let x = trainAt (a .trains) t in
     let s = f .ons t from to on in

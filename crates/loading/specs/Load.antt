@@ -8,6 +8,7 @@ use Rattle.tables.specs.declared.Tables.{Tables}
 use Rattle.tables.specs.Tables.{blankTables}
 use Rattle.decoding.specs.Decoding.{decoded}
 use Rattle.reading.specs.Verdict.{verdict}
+use Rattle.trains.specs.Due.{speedDue}
 use Rattle.trains.specs.Train.{off, trainAt}
 use Rattle.area.specs.declared.Area.{Area}
 use Rattle.area.specs.declared.Outcome.{Outcome}
@@ -15,7 +16,7 @@ use Rattle.answers.specs.Answers.{answerOf}
 
 -- a loaded area: no allocations, no trains, speed due
 unfoldable pub fresh : Tables → Area
-fresh T = record { tables = T; allocations = replicate 62 0; trains = replicate 24 off; due = 0 }
+fresh T = record { tables = T; allocations = replicate 62 0; trains = replicate 24 off; due = speedDue }
 
 -- the blank record: all zero
 unfoldable pub blank : Area

@@ -8,9 +8,9 @@ use Rattle.tables.specs.Rules.{meets}
 use Rattle.tables.proofs.Consistency.{meets-iff}
 use Rattle.decoding.specs.Decoding.{decoded}
 use Rattle.reading.proofs.Accepted.{tables-meet}
-use Rattle.trains.specs.Train.{trainAt, ownIn, nextIn, nearIn, holdsIn}
-use Rattle.trains.specs.Cycle.{wantsIn, movesIn, movedIn}
-use Rattle.trains.specs.Sound.{placeIn, runIn, brakingIn, askingIn, trainSound, allocationSound}
+use Rattle.trains.specs.Train.{trainAt, ownIn, nextIn, occupiedIn, aheadIn}
+use Rattle.trains.specs.Cycle.{wants, movesIn, movedIn}
+use Rattle.trains.specs.Sound.{placeSound, toRun, brakingSound, askingSound, standsSound, allocationSound}
 use Rattle.answers.specs.declared.Answer.the-variants.{Done, Refused}
 use Rattle.answers.specs.Answers.{answerOf, numberOf}
 use Rattle.loading.specs.Load.{loaded}
@@ -50,7 +50,7 @@ is-sound : sound moving ≡ true
 unfolding sound moving
 is-sound =
     rw (tables-A, tables)
-    (unfold tablesOf every trainSound allocationSound placeIn brakingIn runIn askingIn ownIn nextIn nearIn holdsIn wantsIn countOf segmentAt nth S fallingSum B in refl)
+    (unfold tablesOf every standsSound allocationSound placeSound brakingSound toRun askingSound ownIn nextIn occupiedIn aheadIn wants countOf segmentAt nth S fallingSum B in refl)
 
 moved-on : trainAt (positionCall moving .area .trains) 1 ≡ record { route = 1; place = 2; position = 0; speed = 290; asks = false }
 unfolding positionCall afterPosition moving each nth

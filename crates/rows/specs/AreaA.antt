@@ -6,7 +6,7 @@ use lib.ListN.{replicate}
 use Rattle.decoding.specs.Decoding.{decoded}
 use Rattle.trains.specs.Train.{off}
 use Rattle.area.specs.declared.Area.{Area}
-use Rattle.area.specs.Calls.{positionDue}
+use Rattle.trains.specs.Due.{positionDue}
 
 -- a number as two bytes and as four, the least first
 abbrev pub two : ℕ → List ℕ

@@ -12,10 +12,12 @@ use Rattle.tables.specs.declared.Tables.{Tables}
 use Rattle.tables.specs.Tables.{countOf}
 use Rattle.tables.specs.Facts.{Consistent}
 use Rattle.trains.specs.declared.Train.{Train}
-use Rattle.trains.specs.Train.{trainAt, ownIn, ownOf, nextOf}
-use Rattle.trains.specs.Sound.{runIn, toRun}
+use Rattle.trains.specs.Due.{speedDue}
+use Rattle.trains.specs.Train.{trainAt, ownIn, ownOf, nextOf, holdsNext, occupied}
+use Rattle.trains.specs.Sound.{toRun}
 use Rattle.trains.specs.Way.{startAfter}
-use Rattle.trains.proofs.Safety.{TrainOk, holdsBy, next-is, in-margin, start-step, held-next}
+use Rattle.trains.proofs.Segments.{own-occupied, occupied-own, ahead-next}
+use Rattle.trains.proofs.Safety.{TrainOk, next-is, in-margin, start-step, held-next}
 use Rattle.separation.specs.Runs.{World}
 use Rattle.separation.specs.Where.{OnArea, routeOf, segmentOn, OwnPlace, HasOwn, OnSegment, GrantedNext, positionOf, speedOf, stillToRun, heldFrom, reach}
 use Rattle.separation.proofs.Places.{one-place}
@@ -66,13 +68,18 @@ module _ (T : Tables) (K : Consistent T) (w : World) (k : Kept T (w .area .alloc
   own-at : (t p s : ℕ) → OwnPlace T w t p → segmentOn T w t p ≡ s → ownOf T (x t) ≡ s
   own-at t p s o e = own-segment t (o .on) ∙ (ap (segmentOn T w t) (here t p o) ∙ e)
 
-  pub is-apart : (t u s : ℕ) → OnSegment T w t s → OnSegment T w u s → t ≡ u
-  is-apart t u s a b =
-      sym (rw (own-at t (a .place) s (a .own) (a .segment)) at (ok t (a .own .on) .holds))
-      ∙ rw (own-at u (b .place) s (b .own) (b .segment)) at (ok u (b .own .on) .holds)
+  -- the segments of its own places are those under it
+  on-occupied : (t s : ℕ) → OnSegment T w t s → occupied T (x t) s ≡ true
+  on-occupied t s o = own-occupied T (x t) (own-at t (o .place) s (o .own) (o .segment))
+
+  occupied-on : (t s : ℕ) → OnArea T w t → occupied T (x t) s ≡ true → OnSegment T w t s
+  occupied-on t s o e = record { place = x t .place; own = own-here t o; segment = sym (own-segment t o) ∙ occupied-own T (x t) e }
 
   pub is-allocated : (t s : ℕ) → OnSegment T w t s → at (w .area .allocations) s ≡ t
-  is-allocated t s o = rw (own-at t (o .place) s (o .own) (o .segment)) at (ok t (o .own .on) .holds)
+  is-allocated t s o = ok t (o .own .on) .holds s (on-occupied t s o)
+
+  pub is-apart : (t u s : ℕ) → OnSegment T w t s → OnSegment T w u s → t ≡ u
+  is-apart t u s a b = sym (is-allocated t s a) ∙ is-allocated u s b
 
   pub is-slow : (t s : ℕ) → OnSegment T w t s → speedOf T w t ≤ at (T .limits) s
   is-slow t s o = rw (own-at t (o .place) s (o .own) (o .segment)) at (ok t (o .own .on) .slow)
@@ -80,13 +87,13 @@ module _ (T : Tables) (K : Consistent T) (w : World) (k : Kept T (w .area .alloc
   pub is-only : (t s : ℕ) → 1 ≤ t → at (w .area .allocations) s ≡ t → OnSegment T w t s ⊎ GrantedNext T w t s
   is-only t s some e =
       let o : OnArea T w t = rw e at (k .holders s (omega arith)) in
-      cases (ok t o .only s e)
-      (λ q. inl (record { place = x t .place; own = own-here t o; segment = sym (own-segment t o) ∙ sym q }))
+      cases (ok t o .only s e) (λ q. inl (occupied-on t s o q))
       (λ q.
-      let n = next-is T K (x t) (ok t o .onRoute) (q .0) in
+      let a = ahead-next T (x t) (q .0) in
+      let n = next-is T K (x t) (ok t o .onRoute) (rw (← a .1) (a .0)) in
       let later : x t .place < countOf (T .routebytes) (routeOf T w t) = rw (sym (k .routes t o)) (n .later) in
-      let same : segmentOn T w t (x t .place + 1) ≡ s = rw (sym (k .routes t o)) (sym (n .same)) ∙ sym (q .1) in
-      inr (record { place = x t .place; own = own-here t o; later = later; next = same; granted = q .2 }))
+      let same : segmentOn T w t (x t .place + 1) ≡ s = rw (sym (k .routes t o)) (sym (n .same)) ∙ a .1 in
+      inr (record { place = x t .place; own = own-here t o; later = later; next = same; granted = q .1 }))
 
   -- the first of the segments from place p on counts where it is allocated to the train
   held-first :
@@ -107,17 +114,17 @@ module _ (T : Tables) (K : Consistent T) (w : World) (k : Kept T (w .area .alloc
       let more = held-first (countOf (T .routebytes) (routeOf T w t) - x t .place) t (x t .place + 1) (nextOf T (x t)) (omega arith) same e in
       omega (arith, more, ap (at (T .lengths)) (own-segment t o))
 
-  run-margin : (t : ℕ) → OnArea T w t → toRun T (w .area .due) (x t .speed) ≤ T .margin
-  unfolding runIn
+  run-margin : (t : ℕ) → OnArea T w t → toRun (T .braking) (w .area .due) (x t .speed) ≤ T .margin
+  unfolding toRun
   run-margin t o =
       let m = in-margin T K (x t) (ok t o .onRoute) (x t .speed) (ok t o .slow) in
-      if-case (λ (v : ℕ). v ≤ T .margin) (eqb (w .area .due) 0) (λ e. omega (arith, S-B (T .braking) (K .rate) (x t .speed))) (λ e. m)
+      if-case (λ (v : ℕ). v ≤ T .margin) (eqb (w .area .due) speedDue) (λ e. omega (arith, S-B (T .braking) (K .rate) (x t .speed))) (λ e. m)
 
   stops-here : (t : ℕ) → OnArea T w t → x t .position + stillToRun T w t < reach T w t (x t .place)
   stops-here t o =
-      by-test (holdsBy (at (w .area .allocations)) t (nextOf T (x t)))
+      by-test (holdsNext T (at (w .area .allocations)) t (x t))
       (λ h.
-      let p = held-next T K (at (w .area .allocations)) t (nextOf T (x t)) h in
+      let p = held-next T K (at (w .area .allocations)) t (x t) h in
       let n = next-is T K (x t) (ok t o .onRoute) (p .0) in
       omega (arith, ok t o .inside, run-margin t o, K .long (nextOf T (x t)) (n .segment), next-reached t o (p .0) (p .1)))
       (λ h. omega (arith, ok t o .stops h, ap (at (T .lengths)) (own-segment t o)))

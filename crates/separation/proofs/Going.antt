@@ -17,7 +17,8 @@ use Rattle.area.specs.declared.Area.{Area}
 use Rattle.area.specs.declared.Outcome.{Outcome}
 use Rattle.answers.specs.Answers.{answerOf, numberOf, placeOf}
 use Rattle.area.specs.Sound.{sound}
-use Rattle.area.specs.Calls.{outcome, enterTests, leaveTests, speedTests, stepTests, speedDue, requestDue, grantDue, positionDue, afterEnter, afterLeave, afterSpeed, afterRequest, afterGrant, afterPosition, enterCall, leaveCall, speedCall, requestCall, grantCall, positionCall}
+use Rattle.trains.specs.Due.{speedDue, requestDue, grantDue, positionDue}
+use Rattle.area.specs.Calls.{outcome, enterTests, leaveTests, speedTests, stepTests, afterEnter, afterLeave, afterSpeed, afterRequest, afterGrant, afterPosition, enterCall, leaveCall, speedCall, requestCall, grantCall, positionCall}
 use Rattle.answers.proofs.Answers.{number-of-answer, place-of-answer}
 use Rattle.separation.specs.Calls.{Call, Enter, Leave, Speed, Request, Grant, Position, called}
 use Rattle.separation.specs.Runs.{History, noted, isDone}

@@ -14,10 +14,12 @@ use Rattle.lists.proofs.Numbered.{nth-zero, nth-each, length-each, nth-each-in,
 use Rattle.tables.specs.declared.Tables.{Tables}
 use Rattle.tables.specs.Facts.{Consistent, IsSegment}
 use Rattle.trains.specs.declared.Train.{Train}
-use Rattle.trains.specs.Train.{off, entered, trainAt, isOn, ownIn, ownOf, nextOf, holdsIn}
+use Rattle.trains.specs.Due.{speedDue, requestDue, grantDue, positionDue}
+use Rattle.trains.specs.Train.{off, entered, trainAt, isOn, ownIn, ownOf, occupied, ahead}
 use Rattle.trains.specs.Cycle.{sped, requested, movesIn, moved, movedIn, released, freed}
 use Rattle.trains.specs.Grant.{granted, calmed}
 use Rattle.trains.specs.EnterLeave.{firstSegment, takenBy, freedBy, becomes}
+use Rattle.trains.proofs.Segments.{own-occupied, occupied-own, wanted-ahead}
 use Rattle.trains.proofs.Safety.{TrainOk, frame, speed-ok, request-ok, grant-ok, position-ok, enter-ok}
 use Rattle.trains.proofs.Grant.{AsksFor, grant-keeps, grant-asked}
 use Rattle.separation.specs.Runs.{History, put, atEnter, atLeave, atGrant, atPosition}
@@ -51,7 +53,7 @@ module _ (T : Tables) (K : Consistent T) (A : List ℕ) (X : List Train) (h : Hi
   -- ---- a cycle step: f is what it makes of a train, A′ the allocations, way′ and granted′ what the list tells after it
   module _ {due : ℕ} (k : Kept T A X due h) (f : ℕ → Train → Train) (A′ : List ℕ) (due′ : ℕ) (way′ : ℕ → ℕ) (granted′ : ℕ → ℕ → Bool) where
     step-keeps :
-        due′ ≤ 3 → length A′ ≡ 62
+        due′ ≤ positionDue → length A′ ≡ 62
         → ((t : ℕ) → f t off ≡ off)
         → ((t : ℕ) (x : Train) → f t x .route ≡ x .route)
         → ((t : ℕ) → h .on t ≡ true → TrainOk T due′ (at A′) t (f t (trainAt X t)) (way′ t) (granted′ t))
@@ -72,34 +74,34 @@ module _ (T : Tables) (K : Consistent T) (A : List ℕ) (X : List Train) (h : Hi
         look t = train-each f X t offs
 
   -- ---- speed
-  module _ (k : Kept T A X 0 h) (wishes : List ℕ) where
-    pub keep-speed : Kept T A (each (sped T A wishes) X) 1 h
-    unfolding sped holdsIn
+  module _ (k : Kept T A X speedDue h) (wishes : List ℕ) where
+    pub keep-speed : Kept T A (each (sped T A wishes) X) requestDue h
+    unfolding sped
     keep-speed =
-        step-keeps k (sped T A wishes) A 1 (h .way) (h .granted) (omega arith) (k .segments) (λ t. refl)
+        step-keeps k (sped T A wishes) A requestDue (h .way) (h .granted) (omega arith) (k .segments) (λ t. refl)
         (λ t x. if-case (λ (y : Train). y .route ≡ x .route) (isOn x) (λ e. refl) (λ e. refl))
-        (λ t o. rw (on-same T A X 0 h k t ∙ o) (speed-ok T K (at A) t (trainAt X t) (h .way t) (h .granted t) (k .ons t o) (at wishes t)))
+        (λ t o. rw (on-same T A X speedDue h k t ∙ o) (speed-ok T K (at A) t (trainAt X t) (h .way t) (h .granted t) (k .ons t o) (at wishes t)))
         (k .holders)
 
   -- ---- request
-  module _ (k : Kept T A X 1 h) where
-    pub keep-request : Kept T A (each (requested T A) X) 2 h
-    unfolding requested holdsIn
+  module _ (k : Kept T A X requestDue h) where
+    pub keep-request : Kept T A (each (requested T A) X) grantDue h
+    unfolding requested
     keep-request =
-        step-keeps k (requested T A) A 2 (h .way) (h .granted) (omega arith) (k .segments) (λ t. refl)
+        step-keeps k (requested T A) A grantDue (h .way) (h .granted) (omega arith) (k .segments) (λ t. refl)
         (λ t x. if-case (λ (y : Train). y .route ≡ x .route) (isOn x) (λ e. refl) (λ e. refl))
-        (λ t o. rw (on-same T A X 1 h k t ∙ o) (request-ok T K (at A) t (trainAt X t) (h .way t) (h .granted t) (k .ons t o)))
+        (λ t o. rw (on-same T A X requestDue h k t ∙ o) (request-ok T K (at A) t (trainAt X t) (h .way t) (h .granted t) (k .ons t o)))
         (k .holders)
 
   -- ---- grant
-  module _ (k : Kept T A X 2 h) where
+  module _ (k : Kept T A X grantDue h) where
     abbrev A′ : List ℕ
     A′ = each (granted T X) A
 
     abbrev granted′ : ℕ → ℕ → Bool
     granted′ = atGrant h A A′ .granted
 
-    -- an allocation after the grant: of before, or granted to a train that asks for the segment as its next
+    -- an allocation after the grant: of before, or granted to a train that asks for the segment
     gained : (s t : ℕ) → 1 ≤ t → at A′ s ≡ t → (at A s ≡ t) ⊎ ((at A s ≡ t → ⊥) × AsksFor T X t s)
     gained s t some e =
         nth-where 0 A′ s _
@@ -127,25 +129,25 @@ module _ (T : Tables) (K : Consistent T) (A : List ℕ) (X : List Train) (h : Hi
         either-yes (h .granted t s) (not (eqb (at A s) t) && eqb (at A′ s) t)
         (inr (rw (ne-eqb (at A s) t n, eq-eqb (at A′ s) t e)))
 
-    pub keep-grant : Kept T A′ (each (λ (t : ℕ). calmed) X) 3 (atGrant h A A′)
+    pub keep-grant : Kept T A′ (each (λ (t : ℕ). calmed) X) positionDue (atGrant h A A′)
     keep-grant =
-        step-keeps k (λ (t : ℕ). calmed) A′ 3 (h .way) granted′ (omega arith) (length-each (granted T X) A ∙ k .segments) (λ t. refl) (λ t x. refl)
+        step-keeps k (λ (t : ℕ). calmed) A′ positionDue (h .way) granted′ (omega arith) (length-each (granted T X) A ∙ k .segments) (λ t. refl) (λ t x. refl)
         (λ t o.
-        let some = number-some t X (route-some T A X 2 h k t o) in
+        let some = number-some t X (route-some T A X grantDue h k t o) in
         grant-ok T K (k .ons t o) (λ s e. keeps-held s t some e)
         (λ s e.
         cases (gained s t some e) (λ q. inl q)
         (λ q.
-        let p : nextOf T (trainAt X t) ≡ s = q .1 .wants in
-        inr (asked-some s t some e p, sym p, noted-grant t s (q .0) e)))
+        inr (asked-ahead s t some e (q .1), noted-grant t s (q .0) e)))
         (λ s e. either-yes (h .granted t s) (not (eqb (at A s) t) && eqb (at A′ s) t) (inl e)))
         (λ s some. cases (gained s (at A′ s) some refl) (λ q. rw (sym q) (k .holders s (omega arith))) (λ q. asks-on (at A′ s) s (q .1)))
       where
-        asked-some : (s t : ℕ) → 1 ≤ t → at A′ s ≡ t → nextOf T (trainAt X t) ≡ s → 1 ≤ nextOf T (trainAt X t)
-        asked-some s t some e p = nth-where 0 A′ s _ (λ low high. rw p low) (λ z. absurd (omega arith))
+        -- what it asked for and was given lies ahead of it
+        asked-ahead : (s t : ℕ) → 1 ≤ t → at A′ s ≡ t → AsksFor T X t s → ahead T (trainAt X t) s ≡ true
+        asked-ahead s t some e a = nth-where 0 A′ s _ (λ low high. wanted-ahead T (trainAt X t) low (a .wants)) (λ z. absurd (omega arith))
 
   -- ---- position
-  module _ (k : Kept T A X 3 h) where
+  module _ (k : Kept T A X positionDue h) where
     abbrev A″ : List ℕ
     A″ = each (freed T X) A
 
@@ -166,13 +168,13 @@ module _ (T : Tables) (K : Consistent T) (A : List ℕ) (X : List Train) (h : Hi
         (λ r. let z : at A s ≡ t = rw r at q in (z, rw z at r))
 
     pub keep-position :
-        Kept T A″ (each (λ (t : ℕ). moved T) X) 0 (atPosition h X)
+        Kept T A″ (each (λ (t : ℕ). moved T) X) speedDue (atPosition h X)
     unfolding movesIn movedIn
     keep-position =
-        step-keeps k (λ (t : ℕ). moved T) A″ 0 (atPosition h X .way) (h .granted) (omega arith) (length-each (freed T X) A ∙ k .segments) (λ t. refl)
+        step-keeps k (λ (t : ℕ). moved T) A″ speedDue (atPosition h X .way) (h .granted) (omega arith) (length-each (freed T X) A ∙ k .segments) (λ t. refl)
         (λ t x. if-case (λ (y : Train). y .route ≡ x .route) (movesIn (at (T .lengths) (ownOf T x)) x) (λ e. refl) (λ e. refl))
         (λ t o.
-        let some = number-some t X (route-some T A X 3 h k t o) in
+        let some = number-some t X (route-some T A X positionDue h k t o) in
         position-ok T K (at A) (at A″) t (trainAt X t) (h .way t) (h .granted t) (k .ons t o) (λ s e r. kept-of s t e r) (λ s e. of-kept s t some e))
         (λ s some. let q = of-kept s (at A″ s) some refl .0 in rw (sym q) (k .holders s (omega arith)))
 
@@ -268,17 +270,20 @@ module _ (T : Tables) (K : Consistent T) (A : List ℕ) (X : List Train) (h : Hi
         let q : takenBy first t s (at A s) ≡ u = sym (take-look s) ∙ e in
         cases (eq-or-ne s first) (λ z. absurd (n (sym (rw (eq-eqb s first z) at q)))) (λ z. rw (ne-eqb s first z) at q)
 
-    first-held : at takenA first ≡ t
-    first-held = take-look first ∙ rw (eq-eqb first first refl)
+    -- what is under it is the route's first segment, and that alone is allocated to it
+    first-under : (s : ℕ) → occupied T (entered r v) s ≡ true → at takenA s ≡ t
+    unfolding ownIn
+    first-under s o = take-look s ∙ rw (eq-eqb s first (sym (occupied-own T (entered r v) o)))
 
-    first-only : (s : ℕ) → at takenA s ≡ t → s ≡ first
-    first-only s e =
+    under-first : (s : ℕ) → at takenA s ≡ t → occupied T (entered r v) s ≡ true
+    unfolding ownIn
+    under-first s e =
         let q : takenBy first t s (at A s) ≡ t = sym (take-look s) ∙ e in
-        cases (eq-or-ne s first) (λ z. z) (λ z. absurd (none-held s (rw (ne-eqb s first z) at q)))
+        cases (eq-or-ne s first) (λ z. own-occupied T (entered r v) (sym z)) (λ z. absurd (none-held s (rw (ne-eqb s first z) at q)))
 
     itself : TrainOk T due (at takenA) t (entered r v) 0 (λ (s : ℕ). false)
     unfolding ownIn
-    itself = enter-ok T K due (at takenA) t r v (λ (s : ℕ). false) (isRoute .0) (isRoute .1) slow first-held first-only
+    itself = enter-ok T K due (at takenA) t r v (λ (s : ℕ). false) (isRoute .0) (isRoute .1) slow first-under under-first
 
     another : (u : ℕ) → (u ≡ t → ⊥) → h .on u ≡ true → TrainOk T due (at takenA) u (trainAt X u) (h .way u) (h .granted u)
     another u n o =

@@ -13,8 +13,10 @@ use Rattle.tables.specs.declared.Tables.{Tables}
 use Rattle.tables.specs.Facts.{Meets}
 use Rattle.tables.proofs.Consistency.{consistent}
 use Rattle.trains.specs.declared.Train.{Train}
-use Rattle.trains.specs.Train.{off, trainAt, isOn, holdsIn}
+use Rattle.trains.specs.Due.{positionDue}
+use Rattle.trains.specs.Train.{off, trainAt, isOn}
 use Rattle.trains.specs.SoundFacts.{SoundTrain, SoundAllocation}
+use Rattle.trains.proofs.Segments.{occupied-own, ahead-next}
 use Rattle.trains.proofs.Safety.{TrainOk, own-is, next-is}
 use Rattle.area.specs.Sound.{sound}
 use Rattle.area.proofs.Soundness.{sound-iff}
@@ -22,7 +24,7 @@ use Rattle.separation.specs.Runs.{History}
 
 -- T are the tables, A the allocations, X the trains
 pub record Kept (T : Tables) (A : List ℕ) (X : List Train) (due : ℕ) (h : History) : Type 0 where
-  pub dueOk : due ≤ 3
+  pub dueOk : due ≤ positionDue
   pub segments : length A ≡ 62
   pub numbers : length X ≡ 24
   pub offs : (t : ℕ) → h .on t ≡ false → trainAt X t ≡ off
@@ -48,7 +50,6 @@ module _ (T : Tables) (A : List ℕ) (X : List Train) (due : ℕ) (h : History) 
   off-by-route t none = by-test (h .on t) (λ o. absurd (omega (arith, route-some t o))) (λ o. k .offs t o)
 
   sound-train : (t : ℕ) → h .on t ≡ true → SoundTrain T A due t (trainAt X t)
-  unfolding holdsIn
   sound-train t o =
       let ok = k .ons t o in
       record {
@@ -69,13 +70,14 @@ module _ (T : Tables) (A : List ℕ) (X : List Train) (due : ℕ) (h : History) 
         let t = at A s in
         let x = trainAt X t in
         let ok = k .ons t (k .holders s some) in
-        cases (ok .only s refl)
-        (λ e.
-        let g : s ≤ T .segments = rw e (own-is T K x (ok .onRoute) .to) in
-        record { segment = g; on = ok .onRoute .routeLow; whose = inl (sym e) })
-        (λ e.
-        let g : s ≤ T .segments = rw (e .1) (next-is T K x (ok .onRoute) (e .0) .segment .to) in
-        record { segment = g; on = ok .onRoute .routeLow; whose = inr (sym (e .1)) })
+        record {
+          segment =
+              cases (ok .only s refl)
+              (λ e. rw (occupied-own T x e) at (own-is T K x (ok .onRoute) .to))
+              (λ e. let n = ahead-next T x (e .0) in rw (n .1) at (next-is T K x (ok .onRoute) (rw (← n .1) (n .0)) .segment .to));
+          on = ok .onRoute .routeLow;
+          whose = cases (ok .only s refl) (λ e. inl e) (λ e. inr (e .0));
+        }
 
     pub kept-sound : sound (record { tables = T; allocations = A; trains = X; due = due }) ≡ true
     kept-sound =

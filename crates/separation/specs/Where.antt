@@ -64,7 +64,7 @@ module _ (T : Tables) (w : World) where
 
   -- the way still to run under full braking: B(speed) with speed due, S(speed) with another step due
   abbrev pub stillToRun : (t : ℕ) → ℕ
-  stillToRun t = toRun T (w .area .due) (speedOf t)
+  stillToRun t = toRun (T .braking) (w .area .due) (speedOf t)
 
   -- the summed lengths of the segments of its route from place p on that are allocated to it, up to the first that is not, at most n
   unfoldable pub heldFrom : (n t p : ℕ) → ℕ

@@ -2,7 +2,8 @@ use Prim.Native.Nat.{ℕ}
 use mathlib.Core.Path.{refl, _∙_}
 use lib.ListN.{drop}
 use borrow.Author.Needs.{needs}
-use Rattle.area.specs.Calls.{stepTests, grantDue, afterGrant, grantCall}
+use Rattle.trains.specs.Due.{grantDue}
+use Rattle.area.specs.Calls.{stepTests, afterGrant, grantCall}
 use Rattle.lists.proofs.Refusals.{refuse-broken, leave-met, refuse-other, leave-same}
 use Rattle.area.proofs.Laws.{LeftOutcome, finish}
 use Rattle.area.proofs.Area.grant.Statement.{statement}

@@ -2,7 +2,8 @@ use Prim.Native.Nat.{ℕ}
 use mathlib.Core.Path.{refl, _∙_}
 use lib.ListN.{drop}
 use borrow.Author.Needs.{needs}
-use Rattle.area.specs.Calls.{stepTests, positionDue, afterPosition, positionCall}
+use Rattle.trains.specs.Due.{positionDue}
+use Rattle.area.specs.Calls.{stepTests, afterPosition, positionCall}
 use Rattle.lists.proofs.Cases.{test-holds}
 use Rattle.lists.proofs.Numbered.{long-of}
 use Rattle.lists.proofs.Refusals.{refuse-broken, leave-met, refuse-other, leave-same}
