@@ -2,6 +2,7 @@
 use Prim.Native.Nat.{ℕ, zero, suc, _+_, _-_, _≤_, _<_}
 use mathlib.Core.Path.{_≡_, sym, ap, _∙_}
 use mathlib.Core.Logic.{_⊎_, inl, inr}
+use mathlib.Core.Bool.{true}
 use native.Mathlib.Omega.{arith}
 use lib.Dec.{eqb}
 use borrow.Author.Tests.{eq-eqb}
@@ -90,7 +91,7 @@ module _ (T : Tables) (K : Consistent T) (w : World) (k : Kept T (w .area .alloc
       cases (ok t o .only s e) (λ q. inl (occupied-on t s o q))
       (λ q.
       let a = ahead-next T (x t) (q .0) in
-      let n = next-is T K (x t) (ok t o .onRoute) (rw (← a .1) (a .0)) in
+      let n = next-is T K (x t) (ok t o .onRoute) (omega (arith, a .0, a .1)) in
       let later : x t .place < countOf (T .routebytes) (routeOf T w t) = rw (sym (k .routes t o)) (n .later) in
       let same : segmentOn T w t (x t .place + 1) ≡ s = rw (sym (k .routes t o)) (sym (n .same)) ∙ a .1 in
       inr (record { place = x t .place; own = own-here t o; later = later; next = same; granted = q .1 }))

@@ -74,7 +74,7 @@ module _ (T : Tables) (A : List ℕ) (X : List Train) (due : ℕ) (h : History) 
           segment =
               cases (ok .only s refl)
               (λ e. rw (occupied-own T x e) at (own-is T K x (ok .onRoute) .to))
-              (λ e. let n = ahead-next T x (e .0) in rw (n .1) at (next-is T K x (ok .onRoute) (rw (← n .1) (n .0)) .segment .to));
+              (λ e. let n = ahead-next T x (e .0) in rw (n .1) at (next-is T K x (ok .onRoute) (omega (arith, n .0, n .1)) .segment .to));
           on = ok .onRoute .routeLow;
           whose = cases (ok .only s refl) (λ e. inl e) (λ e. inr (e .0));
         }
