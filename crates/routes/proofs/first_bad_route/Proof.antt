@@ -1,3 +1,4 @@
+-- A scan of the route records: rule 10 holds of those up to r.
 use Prim.Native.Nat.{_-_}
 use native.Mathlib.Omega.{arith}
 use Rattle.lists.proofs.Loops.{Scanned, scan-begin, scan-over, scan-more, scan-found}

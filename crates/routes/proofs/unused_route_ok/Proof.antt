@@ -1,3 +1,4 @@
+-- `blank` says whether the first p bytes of the record are zero.
 use Prim.Native.Nat.{_+_, _-_, _≤_}
 use mathlib.Core.Path.{_≡_, sym, _∙_}
 use native.Mathlib.Omega.{arith}

@@ -1,3 +1,4 @@
+-- A scan of the rows: rule 6 holds of what is kept of the records up to k.
 use Prim.Native.Nat.{ℕ, _-_}
 use native.Mathlib.Omega.{arith}
 use borrow.Author.Needs.{needs}

@@ -1,3 +1,4 @@
+-- A scan of the segments: rule 8 holds of those up to s.
 use Prim.Native.Nat.{_-_}
 use native.Mathlib.Omega.{arith}
 use borrow.Author.Needs.{needs}
