@@ -8,7 +8,7 @@
 use mathlib.Core.Path.{_≡_, refl, sym, ap, _∙_}
 use mathlib.Core.List.{List, [], _∷_, foldl, foldl-append}
 use mathlib.Core.Logic.{⊎-elim}
-use mathlib.Core.Bool.{Bool, true, false, not, _&&_, and-false}
+use mathlib.Core.Bool.{Bool, true, false, not, _&&_, and-true, and-false, and-assoc}
 use Prim.Native.Nat.{ℕ, zero, suc, _+_, _-_, _≤_, _<_}
 use native.Mathlib.Nat.{le-of-suc-le-suc, not-suc-le-zero, eq-or-lt-of-le}
 use native.Mathlib.Numerals.{add-one}
@@ -33,6 +33,12 @@ module _ (p : ℕ → Bool) where
   pub every-more : (i : ℕ) → every i p ≡ true → p (i + 1) ≡ true → every (i + 1) p ≡ true
   unfolding every
   every-more i before here = rw (add-one i, every, before, ← add-one i, here)
+
+  -- the first of the numbers, and those after it
+  pub every-first : (n : ℕ) → every (n + 1) p ≡ (p 1 && every n (λ (k : ℕ). p (k + 1)))
+  unfolding every
+  every-first zero = sym (and-true (p 1))
+  every-first (suc n) = let before = rw add-one at (every-first n) in rw (every-next (suc n), before, and-assoc)
 
   -- it fails for one of the numbers: it does not hold for every one
   pub every-fails : (n k : ℕ) → 1 ≤ k → k ≤ n → p k ≡ false → every n p ≡ false

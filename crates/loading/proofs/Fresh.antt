@@ -10,7 +10,7 @@ use Rattle.tables.specs.Tables.{blankTables}
 use Rattle.tables.specs.Rules.{headerIn, meets}
 use Rattle.decoding.specs.Decoding.{decoded}
 use Rattle.reading.specs.Verdict.{accepted}
-use Rattle.reading.proofs.Accepted.{accepted-iff, tables-meet}
+use Rattle.reading.proofs.Accepted.{accepted-iff}
 use Rattle.trains.specs.Train.{off}
 use Rattle.area.specs.Sound.{sound}
 use Rattle.area.proofs.Soundness.{sound-iff}
@@ -27,7 +27,7 @@ unfolding fresh
 fresh-sound file e =
     sound-iff (fresh (decoded file)) .1
     (record {
-      tables = tables-meet file (accepted-iff file .0 e);
+      tables = accepted-iff file .0 e .tables;
       due = omega arith;
       offs = λ t low high z. nth-replicate off 24 t;
       ons = λ t low high o. absurd (omega (arith, ap (λ x. x .route) (nth-replicate off 24 t)));

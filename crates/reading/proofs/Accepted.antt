@@ -15,11 +15,11 @@ use Rattle.lists.proofs.Refusals.{passed, first-named, first-none, first-number
 use Rattle.lists.proofs.Loops.{failing-le, failing-fails, failing-before, failing-none, none-failing}
 use Rattle.file.specs.Blocks.{blocks, fileSize, block, intact, filed, firstDamaged, firstMisfiled}
 use Rattle.tables.specs.Bounds.{mostSegments, mostRoutes}
-use Rattle.tables.specs.Rules.{jointOk, orderOk, dropOk, routeOk}
-use Rattle.tables.specs.Facts.{Meets, Consistent}
+use Rattle.tables.specs.Rules.{headerOk, segmentOk, jointOk, orderOk, dropOk, routeOk}
+use Rattle.tables.specs.Facts.{Consistent}
 use Rattle.tables.proofs.Consistency.{consistent}
 use Rattle.decoding.specs.Decoding.{decoded}
-use Rattle.reading.specs.Verdict.{recordOk, fileTests, tableTests, verdict, accepted}
+use Rattle.reading.specs.Verdict.{headerFiled, reserved, recordOk, fileTests, tableTests, verdict, accepted}
 use Rattle.reading.specs.Acceptance.{MeetsRules, LeastBroken, LeastBlock, Placed}
 
 -- the tests of load, in the order of their numbers
@@ -69,33 +69,45 @@ module _ (file : List ℕ) where
   passes n e = passed n (loadTests file) e
 
   accepted-meets : verdict file .holds ≡ false → MeetsRules file
-  unfolding firstDamaged firstMisfiled
+  unfolding firstDamaged firstMisfiled recordOk
   accepted-meets e =
+      let T = decoded file in
+      let header = and-iff (headerFiled file) (headerOk T) .0 (not-false _ (passes 4 e)) in
+      let record-ok = nowhere mostSegments (recordOk file T) (passes 6 e) in
+      let segment : (s : ℕ) → 1 ≤ s → s ≤ mostSegments → (segmentOk T s ≡ true) × (reserved file s ≡ true) =
+      λ s low high. and-iff (segmentOk T s) (reserved file s) .0 (record-ok s low high) in
       record {
         size = eqb-true (length file) fileSize (not-false _ (passes 1 e));
         checks = no-block (λ (k : ℕ). intact (block file k)) (passes 2 e);
         tails = no-block (λ (k : ℕ). filed (block file k) k) (passes 3 e);
-        header = not-false _ (passes 4 e);
-        margin = not-false _ (passes 5 e);
-        segment = nowhere mostSegments (recordOk file (decoded file)) (passes 6 e);
-        joint = nowhere (decoded file .segments) (jointOk (decoded file)) (passes 7 e);
-        order = nowhere (decoded file .segments) (orderOk (decoded file)) (passes 8 e);
-        drop = nowhere (decoded file .segments) (dropOk (decoded file)) (passes 9 e);
-        route = nowhere mostRoutes (routeOk (decoded file)) (passes 10 e);
+        header = header .0;
+        zeros = λ s low high. segment s low high .1;
+        tables =
+            record {
+              header = header .1;
+              margin = not-false _ (passes 5 e);
+              segment = λ s low high. segment s low high .0;
+              joint = nowhere (T .segments) (jointOk T) (passes 7 e);
+              order = nowhere (T .segments) (orderOk T) (passes 8 e);
+              drop = nowhere (T .segments) (dropOk T) (passes 9 e);
+              route = nowhere mostRoutes (routeOk T) (passes 10 e);
+            };
       }
 
   meets-accepted : MeetsRules file → verdict file .holds ≡ false
-  unfolding verdict firstDamaged firstMisfiled
+  unfolding verdict firstDamaged firstMisfiled recordOk
   meets-accepted m =
+      let T = decoded file in
+      let t = m .tables in
       let r1 = eq-eqb (length file) fileSize (m .size) in
       let r2 = no-block′ (λ (k : ℕ). intact (block file k)) (m .checks) in
       let r3 = no-block′ (λ (k : ℕ). filed (block file k) k) (m .tails) in
-      let r6 = nowhere′ mostSegments (recordOk file (decoded file)) (m .segment) in
-      let r7 = nowhere′ (decoded file .segments) (jointOk (decoded file)) (m .joint) in
-      let r8 = nowhere′ (decoded file .segments) (orderOk (decoded file)) (m .order) in
-      let r9 = nowhere′ (decoded file .segments) (dropOk (decoded file)) (m .drop) in
-      let r10 = nowhere′ mostRoutes (routeOk (decoded file)) (m .route) in
-      simp (r1, r2, r3, m .header, m .margin, r6, r7, r8, r9, r10)
+      let r6 = nowhere′ mostSegments (recordOk file T) (λ s low high. and-iff (segmentOk T s) (reserved file s) .1 (t .segment s low high, m .zeros s low high)) in
+      let r7 = nowhere′ (T .segments) (jointOk T) (t .joint) in
+      let r8 = nowhere′ (T .segments) (orderOk T) (t .order) in
+      let r9 = nowhere′ (T .segments) (dropOk T) (t .drop) in
+      let r10 = nowhere′ mostRoutes (routeOk T) (t .route) in
+      simp (r1, r2, r3, m .header, t .header, t .margin, r6, r7, r8, r9, r10)
 
   -- THE CLAIM: accepted if and only if all ten rules hold
   pub accepted-iff : (accepted file ≡ true) ↔ MeetsRules file
@@ -135,19 +147,5 @@ module _ (file : List ℕ) where
         route = λ e. rw (named 10 (omega arith) e .1) (somewhere mostRoutes (routeOk (decoded file)) (named 10 (omega arith) e .0));
       }
 
--- the tables of a file that meets the ten rules meet 4 to 10
-pub tables-meet : (file : List ℕ) → MeetsRules file → Meets (decoded file)
-unfolding recordOk
-tables-meet file m =
-    record {
-      header = (simp and-iff at (m .header)) .1;
-      margin = m .margin;
-      segment = λ s low high. (simp and-iff at (m .segment s low high)) .0;
-      joint = m .joint;
-      order = m .order;
-      drop = m .drop;
-      route = m .route;
-    }
-
 pub file-consistent : (file : List ℕ) → accepted file ≡ true → Consistent (decoded file)
-file-consistent file e = consistent (decoded file) (tables-meet file (accepted-iff file .0 e))
+file-consistent file e = consistent (decoded file) (accepted-iff file .0 e .tables)

@@ -1,27 +1,26 @@
 -- What acceptance and a refusal's place mean: each of the ten rules as a condition on the file, and the least that breaks one.
 use Prim.Native.Nat.{ℕ, _≤_, _<_}
 use mathlib.Core.Path.{_≡_}
-use mathlib.Core.Bool.{Bool, true, false, _&&_}
+use mathlib.Core.Bool.{Bool, true, false}
 use mathlib.Core.List.{List}
 use lib.ListN.{length}
 use Rattle.file.specs.Blocks.{blocks, fileSize, block, intact, filed}
 use Rattle.tables.specs.Bounds.{mostSegments, mostRoutes}
-use Rattle.tables.specs.Rules.{headerOk, marginOk, jointOk, orderOk, dropOk, routeOk}
+use Rattle.tables.specs.Rules.{jointOk, orderOk, dropOk, routeOk}
+use Rattle.tables.specs.Facts.{Meets}
 use Rattle.decoding.specs.Decoding.{decoded}
-use Rattle.reading.specs.Verdict.{headerFiled, recordOk, verdict}
+use Rattle.reading.specs.Verdict.{headerFiled, reserved, recordOk, verdict}
 
 -- the file meets rule 1, .. rule 10
 pub record MeetsRules (file : List ℕ) : Type 0 where
   pub size : length file ≡ fileSize
   pub checks : (k : ℕ) → k < blocks → intact (block file k) ≡ true
   pub tails : (k : ℕ) → k < blocks → filed (block file k) k ≡ true
-  pub header : (headerFiled file && headerOk (decoded file)) ≡ true
-  pub margin : marginOk (decoded file) ≡ true
-  pub segment : (s : ℕ) → 1 ≤ s → s ≤ mostSegments → recordOk file (decoded file) s ≡ true
-  pub joint : (s : ℕ) → 1 ≤ s → s ≤ decoded file .segments → jointOk (decoded file) s ≡ true
-  pub order : (s : ℕ) → 1 ≤ s → s ≤ decoded file .segments → orderOk (decoded file) s ≡ true
-  pub drop : (s : ℕ) → 1 ≤ s → s ≤ decoded file .segments → dropOk (decoded file) s ≡ true
-  pub route : (r : ℕ) → 1 ≤ r → r ≤ mostRoutes → routeOk (decoded file) r ≡ true
+  -- rules 4 and 6 of what the tables do not keep
+  pub header : headerFiled file ≡ true
+  pub zeros : (s : ℕ) → 1 ≤ s → s ≤ mostSegments → reserved file s ≡ true
+  -- rules 4 to 10 of what they keep
+  pub tables : Meets (decoded file)
 
 -- k is the least of the numbers 1 to n that breaks a rule
 pub record LeastBroken (n : ℕ) (ok : ℕ → Bool) (k : ℕ) : Type 0 where

@@ -7,6 +7,7 @@ ghost use Rattle.lists.specs.Tests.{firstOf};
 ghost use Rattle.file.specs.Blocks.{fileSize};
 ghost use Rattle.tables.specs.Bounds.{mostSegments};
 ghost use Rattle.reading.specs.Verdict.{headerFiled, reserved, recordOk, tableTests, readingBy, readingOf, refusedReading};
+use tables::MOST_SEGMENTS;
 use tables::Tables;
 
 // The number and the place of the first rule that is broken, 0 and 0 where none is, and the tables, all zero where one is.
@@ -39,13 +40,13 @@ fn first_bad_record(file: &[u8], t: Tables) -> u8
     ensures { λ r. ⌜ r ≡ firstFailing mostSegments (recordOk (now (file .entry)) t) ⌝ }
 {
     let mut i: u8 = 0;
-    while i < 62 {
-        let row = tables::row_of(&t.lengths, &t.limits, &t.next, &t.previous, &t.flags, i + 1);
-        let kept = rules::row_ok(t.segments, t.gmax, t.margin, i + 1, row);
-        if !(kept & is_reserved(file, i as usize)) {
-            return i + 1;
-        }
+    while i < MOST_SEGMENTS {
+        let zeros = is_reserved(file, i as usize);
         i += 1;
+        let row = tables::row_of(&t.lengths, &t.limits, &t.next, &t.previous, &t.flags, i);
+        if !(rules::row_ok(t.segments, t.gmax, t.margin, i, row) & zeros) {
+            return i;
+        }
     }
     0
 }

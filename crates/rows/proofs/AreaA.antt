@@ -15,7 +15,7 @@ use Rattle.reading.specs.Verdict.{headerFiled, reserved, recordOk, atBlock, atN
 use Rattle.tables.specs.declared.Tables.{Tables}
 use Rattle.tables.specs.Bounds.{mostSegments, mostRoutes}
 use Rattle.tables.specs.Tables.{linksTo, countOf, segmentAt}
-use Rattle.tables.specs.Rules.{headerIn, headerOk, marginOk, linksOk, usedOk, unusedOk, rowOk, segmentOk, matched, jointIn, jointOk, orderIn, orderOk, dropIn, dropOk, stepBy, stepIn, countIn, routeIn, routeOk}
+use Rattle.tables.specs.Rules.{headerIn, headerOk, marginOk, linksOk, usedOk, unusedOk, rowOk, segmentOk, matched, jointIn, jointOk, orderIn, orderOk, dropIn, dropOk, usedRouteOk, unusedRouteOk, routeIn, routeOk}
 use Rattle.answers.specs.Answers.{answerOf}
 use Rattle.loading.specs.Load.{loaded}
 use Rattle.rows.specs.AreaA.{two, four, header, segments, noSegments, routes, noRoutes, file}
@@ -96,7 +96,7 @@ module _ (d length2 limit3 first0 second0 first1 second1 : ℕ) where
   orders = refl
 
   routebytes : firstFailing mostRoutes (routeOk T) ≡ 0
-  unfolding tablesOf routeIn countIn stepIn stepBy linksTo countOf segmentAt nth every least
+  unfolding tablesOf routeIn usedRouteOk unusedRouteOk linksTo countOf segmentAt nth every least
   routebytes = refl
 
   -- so the other rules decide

@@ -7,7 +7,6 @@ use Rattle.tables.specs.Tables.{countOf, segmentAt}
 use Rattle.tables.specs.Rules.{meets}
 use Rattle.tables.proofs.Consistency.{meets-iff}
 use Rattle.decoding.specs.Decoding.{decoded}
-use Rattle.reading.proofs.Accepted.{tables-meet}
 use Rattle.trains.specs.Train.{trainAt, ownIn, nextIn, occupiedIn, aheadIn}
 use Rattle.trains.specs.Cycle.{wants, movesIn, movedIn}
 use Rattle.trains.specs.Sound.{placeSound, toRun, brakingSound, askingSound, standsSound, allocationSound}
@@ -44,7 +43,7 @@ limit-289 = answered 4650 5500 289 122 33 250 78 (left 0 true true 0 1) refl
 
 -- the record is sound: its tables are those of a file that passes
 tables-A : meets (decoded (file headerA segmentsA)) ≡ true
-tables-A = meets-iff _ .1 (tables-meet _ (done-iff _ .0 (ap numberOf area-A)))
+tables-A = meets-iff _ .1 (done-iff _ .0 (ap numberOf area-A) .tables)
 
 is-sound : sound moving ≡ true
 unfolding sound moving

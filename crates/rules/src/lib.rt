@@ -8,20 +8,16 @@ ghost use Rattle.tables.specs.Bounds.{mostSegments};
 ghost use Rattle.tables.specs.Tables.{rowOf};
 ghost use Rattle.tables.specs.Rules.{headerIn, linksOk, usedOk, unusedOk, rowOk, matched, jointIn, greater, orderIn, gentle, dropIn, meets};
 use lists::entry_u16;
+use tables::FASTEST;
+use tables::LONGEST;
+use tables::MOST_ROUTES;
+use tables::MOST_SEGMENTS;
 use tables::Segment;
 use tables::Tables;
 use tables::first_link;
 use tables::links_to;
 use tables::row_of;
 use tables::second_link;
-
-const MOST_SEGMENTS: u8 = 62;
-
-const MOST_ROUTES: u8 = 30;
-
-const FASTEST: u16 = 1000;
-
-const LONGEST: u32 = 1000000;
 
 // ---- rules 4 and 5
 pub fn header_ok(segments: u8, routes: u8, gmax: u16, braking: u16, margin: u32) -> bool
@@ -103,13 +99,18 @@ fn first_bad_segment<'a>(
 ) -> u8
     ensures { λ r. ⌜ r ≡ firstFailing mostSegments (λ k. rowOk n gmax margin k (rowOf (now (lengths .entry)) (now (limits .entry)) (now (next .entry)) (now (previous .entry)) (now (flags .entry)) k)) ⌝ }
 {
-    let mut i: u8 = 0;
-    while i < MOST_SEGMENTS {
-        let row = row_of(lengths, limits, next, previous, flags, i + 1);
-        if !row_ok(n, gmax, margin, i + 1, row) {
-            return i + 1;
+    let mut k: u8 = 0;
+    while k < MOST_SEGMENTS {
+        k += 1;
+        if !row_ok(
+            n,
+            gmax,
+            margin,
+            k,
+            row_of(lengths, limits, next, previous, flags, k),
+        ) {
+            return k;
         }
-        i += 1;
     }
     0
 }
@@ -133,12 +134,12 @@ fn joint_ok<'a>(next: &'a [u8; 124], previous: &'a [u8; 124], s: u8) -> bool
 pub fn first_unjoined<'a>(next: &'a [u8; 124], previous: &'a [u8; 124], n: u8) -> u8
     ensures { λ r. ⌜ r ≡ firstFailing n (jointIn (now (next .entry)) (now (previous .entry))) ⌝ }
 {
-    let mut i: u8 = 0;
-    while i < n {
-        if !joint_ok(next, previous, i + 1) {
-            return i + 1;
+    let mut s: u8 = 0;
+    while s < n {
+        s += 1;
+        if !joint_ok(next, previous, s) {
+            return s;
         }
-        i += 1;
     }
     0
 }
@@ -158,12 +159,12 @@ fn order_ok(next: &[u8; 124], s: u8) -> bool
 pub fn first_unordered(next: &[u8; 124], n: u8) -> u8
     ensures { λ r. ⌜ r ≡ firstFailing n (orderIn (now (next .entry))) ⌝ }
 {
-    let mut i: u8 = 0;
-    while i < n {
-        if !order_ok(next, i + 1) {
-            return i + 1;
+    let mut s: u8 = 0;
+    while s < n {
+        s += 1;
+        if !order_ok(next, s) {
+            return s;
         }
-        i += 1;
     }
     0
 }
@@ -194,12 +195,12 @@ fn drop_ok<'a>(limits: &'a [u16; 62], next: &'a [u8; 124], braking: u16, s: u8) 
 pub fn first_dropping<'a>(limits: &'a [u16; 62], next: &'a [u8; 124], braking: u16, n: u8) -> u8
     ensures { λ r. ⌜ r ≡ firstFailing n (dropIn (now (limits .entry)) (now (next .entry)) braking) ⌝ }
 {
-    let mut i: u8 = 0;
-    while i < n {
-        if !drop_ok(limits, next, braking, i + 1) {
-            return i + 1;
+    let mut s: u8 = 0;
+    while s < n {
+        s += 1;
+        if !drop_ok(limits, next, braking, s) {
+            return s;
         }
-        i += 1;
     }
     0
 }

@@ -12,7 +12,6 @@ use Rattle.tables.specs.Facts.{Meets}
 use Rattle.tables.proofs.Consistency.{consistent}
 use Rattle.decoding.specs.Decoding.{decoded}
 use Rattle.reading.proofs.Accepted.{accepted-iff}
-use Rattle.reading.proofs.Accepted.{tables-meet}
 use Rattle.trains.specs.Train.{off}
 use Rattle.answers.specs.declared.Answer.{Answer}
 use Rattle.answers.specs.declared.Answer.the-variants.{Done}
@@ -99,7 +98,7 @@ module _ (T : Tables) (M : Meets T) where
 
 -- the tables of a file that load answers with done meet the rules, and its record is fresh
 pub file-meets : (file : List ℕ) → numberOf (loaded file .answer) ≡ 0 → Meets (decoded file)
-file-meets file done = tables-meet file (done-iff file .0 done)
+file-meets file done = done-iff file .0 done .tables
 
 pub file-fresh : (file : List ℕ) → numberOf (loaded file .answer) ≡ 0 → loaded file .area ≡ fresh (decoded file)
 file-fresh file done = done-fresh file (accepted-iff file .1 (done-iff file .0 done))

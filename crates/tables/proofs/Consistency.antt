@@ -1,19 +1,19 @@
 -- Tables that meet rules 4 to 10 are consistent.
-use Prim.Native.Nat.{ℕ, _+_, _-_, _≤_, _<_}
+use Prim.Native.Nat.{ℕ, _+_, _≤_, _<_}
 use mathlib.Core.Path.{_≡_}
-use mathlib.Core.Bool.{Bool, true, _||_, and-eq-true-iff}
+use mathlib.Core.Bool.{Bool, true, _||_}
 use mathlib.Core.Logic.{_↔_}
 use mathlib.Core.List.{List}
 use native.Mathlib.Omega.{arith}
 use lib.Dec.{leb, ltb, eqb}
 use borrow.Author.Tests.{leb-true, ltb-true, eqb-true, le-leb}
-use Rattle.lists.specs.Words.{at, every}
+use Rattle.lists.specs.Words.{at}
 use Rattle.lists.proofs.Cases.{cases, either, and-iff, facts}
 use Rattle.lists.proofs.Loops.{every-at, every-all}
 use Rattle.tables.specs.declared.Tables.{Tables}
 use Rattle.tables.specs.Bounds.{mostSegments, mostRoutes, longestRoute, fastest, longest}
 use Rattle.tables.specs.Tables.{firstLink, secondLink, linksTo, segmentOf, countOf, segmentAt}
-use Rattle.tables.specs.Rules.{headerIn, linksOk, usedOk, rowOk, segmentOk, matched, jointIn, orderIn, gentle, dropIn, stepBy, stepIn, countIn, routeIn, jointOk, orderOk, dropOk, routeOk, meets}
+use Rattle.tables.specs.Rules.{headerIn, linksOk, usedOk, rowOk, segmentOk, matched, jointIn, orderIn, gentle, dropIn, numberIn, stepIn, usedRouteOk, routeIn, jointOk, orderOk, dropOk, routeOk, meets}
 use Rattle.tables.specs.Facts.{Meets, IsSegment, Consistent}
 
 -- what holds of each link of a segment that is not 0 holds of every number that it links to
@@ -80,29 +80,29 @@ module _ (T : Tables) (m : Meets T) where
       let f = simp and-iff at h in
       leb-true _ _ (of-link (T .next) (λ (k : ℕ). leb (at (T .limits) s) (at (T .limits) k + T .braking)) s (f .0) (f .1) n l some)
 
-  route-facts : (r : ℕ) → 1 ≤ r → r ≤ T .routes → (countIn (T .routebytes) (T .routes) r ≡ true) × (every longestRoute (stepIn (T .next) (T .routebytes) (T .segments) r) ≡ true)
+  -- the tests of a route in order: its count's bounds, the numbers up to it, the steps between them, the rest
+  route-tests : (r : ℕ) → 1 ≤ r → r ≤ T .routes → usedRouteOk (T .next) (T .routebytes) (T .segments) r ≡ true
   unfolding routeIn
-  route-facts r low high = let f = header-facts in and-eq-true-iff _ _ .0 (m .route r low (omega arith))
+  route-tests r low high = let f = header-facts in let h = m .route r low (omega arith) in rw (le-leb r (T .routes) high) at h
 
   count-facts : (r : ℕ) → 1 ≤ r → r ≤ T .routes → (1 ≤ countOf (T .routebytes) r) × (countOf (T .routebytes) r ≤ longestRoute)
-  unfolding countIn
-  count-facts r low high =
-      let h = rw (le-leb r (T .routes) high) at (route-facts r low high .0) in
-      let f = simp facts at h in omega arith
+  unfolding usedRouteOk
+  count-facts r low high = let h = route-tests r low high in let f = simp facts at h in omega arith
 
-  -- of a place up to the count: its number is 1 to N, and after the first place the segment before links to it
+  place-facts : (r p : ℕ) → 1 ≤ r → r ≤ T .routes → 1 ≤ p → p ≤ countOf (T .routebytes) r → IsSegment T (segmentAt (T .routebytes) r p)
+  unfolding usedRouteOk
+  place-facts r p low high from to =
+      let f = simp and-iff at (route-tests r low high) in
+      let g = simp facts at (every-at (numberIn (T .routebytes) (T .segments) r) _ (f .0 .0 .1) p from to) in
+      record { from = g .0; to = g .1 }
+
   step-facts :
-      (r p : ℕ) → 1 ≤ r → r ≤ T .routes → 1 ≤ p → p ≤ countOf (T .routebytes) r
-      → (IsSegment T (segmentAt (T .routebytes) r p)) × (2 ≤ p → linksTo (T .next) (segmentAt (T .routebytes) r (p - 1)) (segmentAt (T .routebytes) r p) ≡ true)
-  unfolding stepIn stepBy
+      (r p : ℕ) → 1 ≤ r → r ≤ T .routes → 1 ≤ p → p < countOf (T .routebytes) r
+      → linksTo (T .next) (segmentAt (T .routebytes) r p) (segmentAt (T .routebytes) r (p + 1)) ≡ true
+  unfolding usedRouteOk
   step-facts r p low high from to =
-      let c = count-facts r low high in
-      let h = rw (le-leb p (countOf (T .routebytes) r) to) at (every-at _ longestRoute (route-facts r low high .1) p from (omega arith)) in
-      let f = simp and-iff at h in
-      let s = segmentAt (T .routebytes) r p in (
-        record { from = leb-true 1 s (f .0 .0); to = leb-true s (T .segments) (f .0 .1) },
-        λ later. cases (either (eqb p 1) _ (f .1)) (λ e. absurd (omega (arith, eqb-true p 1 e))) (λ e. e),
-      )
+      let f = simp and-iff at (route-tests r low high) in
+      every-at (stepIn (T .next) (T .routebytes) r) _ (f .0 .1) p from (omega arith)
 
   pub consistent : Consistent T
   consistent =
@@ -121,12 +121,10 @@ module _ (T : Tables) (m : Meets T) where
         rises = λ s n i f. link-rises s n i (f .some) (f .link);
         gentle = λ s n i f. link-gentle s n i (f .some) (f .link);
         counted = count-facts;
-        placed = λ r p low high from to. step-facts r p low high from to .0;
+        placed = place-facts;
         stepped =
             λ r p low high from to.
-            let s = step-facts r (p + 1) low high (omega arith) (omega arith) in
-            let e : p + 1 - 1 ≡ p = omega arith in
-            record { link = rw e at (s .1 (omega arith)); some = s .0 .from };
+            record { link = step-facts r p low high from to; some = place-facts r (p + 1) low high (omega arith) (omega arith) .from };
       }
 
 -- the test of tables decides whether they meet the rules

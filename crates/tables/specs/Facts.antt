@@ -38,7 +38,7 @@ pub record Consistent (T : Tables) : Type 0 where
   pub long : (s : ℕ) → IsSegment T s → T .margin + T .gmax < at (T .lengths) s
   pub short : (s : ℕ) → IsSegment T s → at (T .lengths) s ≤ longest
   pub limited : (s : ℕ) → IsSegment T s → (1 ≤ at (T .limits) s) × (at (T .limits) s ≤ T .gmax)
-  -- links lead to segments of the area, are matched both routebytes, rise, and drop the limit by at most `b`
+  -- links lead to segments of the area, are matched both ways, rise, and drop the limit by at most `b`
   pub linked : (s n : ℕ) → IsSegment T s → Follows T s n → n ≤ T .segments
   pub back : (s n : ℕ) → IsSegment T s → Follows T s n → linksTo (T .previous) n s ≡ true
   pub forth : (s n : ℕ) → IsSegment T s → 1 ≤ n → linksTo (T .previous) s n ≡ true → linksTo (T .next) n s ≡ true

@@ -78,20 +78,36 @@ dropIn limits next b s = gentle limits b s (firstLink next s) && gentle limits b
 abbrev pub dropOk : Tables → ℕ → Bool
 dropOk T = dropIn (T .limits) (T .next) (T .braking)
 
--- rule 10, route: a place up to the count has a number 1 to n that, after the first place, the segment before links to; the rest is zero
-unfoldable pub stepBy : (next : List ℕ) (n count p before segment : ℕ) → Bool
-stepBy next n count p before segment =
-    if leb p count then leb 1 segment && leb segment n && (eqb p 1 || linksTo next before segment) else eqb segment 0
+-- rule 10, route: the number at place p of route r is 1 to n
+abbrev pub numberIn : (routebytes : List ℕ) (n r p : ℕ) → Bool
+numberIn routebytes n r p = leb 1 (segmentAt routebytes r p) && leb (segmentAt routebytes r p) n
 
-unfoldable pub stepIn : (next routebytes : List ℕ) (n r p : ℕ) → Bool
-stepIn next routebytes n r p = stepBy next n (countOf routebytes r) p (segmentAt routebytes r (p - 1)) (segmentAt routebytes r p)
+-- the step from place p to the next is a next link
+abbrev pub stepIn : (next routebytes : List ℕ) (r p : ℕ) → Bool
+stepIn next routebytes r p = linksTo next (segmentAt routebytes r p) (segmentAt routebytes r (p + 1))
 
--- the count is 1 to 31 of a route up to R, and 0 of a record above R
-unfoldable pub countIn : (routebytes : List ℕ) (R r : ℕ) → Bool
-countIn routebytes R r = if leb r R then leb 1 (countOf routebytes r) && leb (countOf routebytes r) longestRoute else eqb (countOf routebytes r) 0
+-- place p is zero; place p is zero if it stands after the count
+abbrev pub zeroIn : (routebytes : List ℕ) (r p : ℕ) → Bool
+zeroIn routebytes r p = eqb (segmentAt routebytes r p) 0
+
+abbrev pub restIn : (routebytes : List ℕ) (r p : ℕ) → Bool
+restIn routebytes r p = leb p (countOf routebytes r) || zeroIn routebytes r p
+
+-- a record 1 to R: the count is 1 to 31, each of the first `count` numbers is 1 to n, each step from one to the next is a next link,
+-- the rest is zero
+unfoldable pub usedRouteOk : (next routebytes : List ℕ) (n r : ℕ) → Bool
+usedRouteOk next routebytes n r =
+    leb 1 (countOf routebytes r) && leb (countOf routebytes r) longestRoute
+    && every (countOf routebytes r) (numberIn routebytes n r)
+    && every (countOf routebytes r - 1) (stepIn next routebytes r)
+    && every longestRoute (restIn routebytes r)
+
+-- a record above R: all zero
+unfoldable pub unusedRouteOk : (routebytes : List ℕ) (r : ℕ) → Bool
+unusedRouteOk routebytes r = eqb (countOf routebytes r) 0 && every longestRoute (zeroIn routebytes r)
 
 unfoldable pub routeIn : (next routebytes : List ℕ) (n R r : ℕ) → Bool
-routeIn next routebytes n R r = countIn routebytes R r && every longestRoute (stepIn next routebytes n r)
+routeIn next routebytes n R r = if leb r R then usedRouteOk next routebytes n r else unusedRouteOk routebytes r
 
 abbrev pub routeOk : Tables → ℕ → Bool
 routeOk T = routeIn (T .next) (T .routebytes) (T .segments) (T .routes)

@@ -1,3 +1,4 @@
+-- A scan of the records, of each of which the code finds what the tables keep and the zeros: together `recordOk`.
 use Prim.Native.Nat.{_+_, _-_}
 use mathlib.Core.Path.{_≡_}
 use mathlib.Core.Bool.{_&&_}
@@ -16,54 +17,17 @@ Inv-loop file t i₀ i = Scanned mostSegments (recordOk file t) i
 abbrev μ-loop : tie.MeasureT-loop
 μ-loop file t i₀ i = mostSegments - i
 
-loop-holds : tie.Need-loop-holds Inv-loop μ-loop
-loop-holds c = scan-begin
-
-add-row-of : tie.Need-add-row-of Inv-loop μ-loop
-add-row-of c = omega arith
-
-row-of-requires : tie.Need-row-of-requires Inv-loop μ-loop
-row-of-requires c κs = search needs
-
-add-row-ok : tie.Need-add-row-ok Inv-loop μ-loop
-add-row-ok c = omega arith
-
-row-ok-requires : tie.Need-row-ok-requires Inv-loop μ-loop
-row-ok-requires c κs = search needs
-
-cast-is-reserved : tie.Need-cast-is-reserved Inv-loop μ-loop
-cast-is-reserved c = omega arith
-
-is-reserved-requires : tie.Need-is-reserved-requires Inv-loop μ-loop
-is-reserved-requires c κs = search needs
-
-add-result : tie.Need-add-result Inv-loop μ-loop
-add-result c = omega arith
-
-abbrev turn : tie.After-is-reserved Inv-loop μ-loop → tie.In-loop Inv-loop μ-loop
-turn c = c .before .before .before .before .before .before .before .before .before
+-- in a turn of the loop, after the look at the zeros
+abbrev turn : tie.After-row-ok Inv-loop μ-loop → tie.After-is-reserved Inv-loop μ-loop
+turn c = c .before .before .before .before .before .before .before .before
 
 here :
-    (c : tie.After-is-reserved Inv-loop μ-loop)
-    → let a = turn c .before .before .before .args in
-    (c .before .row-ok .result && c .is-reserved .result) ≡ recordOk (now (a .file)) (a .t2) (turn c .before .loop .i + 1)
+    (c : tie.After-row-ok Inv-loop μ-loop)
+    → let l = turn c .before .before in
+    let a = l .before .before .args in
+    (c .row-ok .result && turn c .is-reserved .result) ≡ recordOk (now (a .file)) (a .t2) (l .loop .i + 1)
 unfolding recordOk
-here c = simp (c .before .row-ok .ensures, c .before .before .row-of .ensures, c .is-reserved .ensures)
-
-returns : tie.Need-returns Inv-loop μ-loop
-returns c = scan-found (turn (c .before) .before .loop .inv) (turn (c .before) .loop-test .taken) (here (c .before)) (c .if1 .taken)
-
-add-i : tie.Need-add-i Inv-loop μ-loop
-add-i c = omega arith
-
-loop-less : tie.Need-loop-less Inv-loop μ-loop
-loop-less c = omega arith
-
-loop-again : tie.Need-loop-again Inv-loop μ-loop
-loop-again c = scan-more (turn (c .before) .before .loop .inv) (turn (c .before) .loop-test .taken) (here (c .before)) (c .if1 .left)
-
-returns-2 : tie.Need-returns-2 Inv-loop μ-loop
-returns-2 c = scan-over (c .before .loop .inv) (c .loop-test .left)
+here c = simp (c .row-ok .ensures, c .before .row-of .ensures, turn c .is-reserved .ensures)
 
 pub first-bad-record-spec : {M : Type 1} → statement M
 first-bad-record-spec =
@@ -71,16 +35,13 @@ first-bad-record-spec =
     (tie.spec
     Inv-loop
     μ-loop
-    loop-holds
-    add-row-of
-    row-of-requires
-    add-row-ok
-    row-ok-requires
-    cast-is-reserved
-    is-reserved-requires
-    add-result
-    returns
-    add-i
-    loop-less
-    loop-again
-    returns-2)
+    (λ c. scan-begin)
+    (λ c. omega arith)
+    (λ c κs. search needs)
+    (λ c. omega arith)
+    (λ c κs. search needs)
+    (λ c κs. search needs)
+    (λ c. let l = turn (c .before) .before in scan-found (l .before .loop .inv) (l .loop-test .taken) (here (c .before)) (c .if1 .taken))
+    (λ c. omega arith)
+    (λ c. let l = turn (c .before) .before in scan-more (l .before .loop .inv) (l .loop-test .taken) (here (c .before)) (c .if1 .left))
+    (λ c. scan-over (c .before .loop .inv) (c .loop-test .left)))

@@ -1,43 +1,17 @@
+-- A scan of the segments: rule 7 holds of those up to s.
 use Prim.Native.Nat.{_-_}
 use native.Mathlib.Omega.{arith}
 use borrow.Author.Needs.{needs}
-use Rattle.tables.specs.Rules.{jointIn}
 use Rattle.lists.proofs.Loops.{Scanned, scan-begin, scan-over, scan-more, scan-found}
+use Rattle.tables.specs.Rules.{jointIn}
 use Rattle.rules.proofs.first_unjoined.Statement.{statement}
 use Rattle.rules.proofs.first_unjoined.Tie as tie
 
 abbrev Inv-loop : tie.InvT-loop
-Inv-loop next previous n i₀ i = Scanned n (jointIn next previous) i
+Inv-loop next previous n s₀ s = Scanned n (jointIn next previous) s
 
 abbrev μ-loop : tie.MeasureT-loop
-μ-loop next previous n i₀ i = n - i
-
-loop-holds : tie.Need-loop-holds Inv-loop μ-loop
-loop-holds c = scan-begin
-
-add-joint-ok : tie.Need-add-joint-ok Inv-loop μ-loop
-add-joint-ok c = omega arith
-
-joint-ok-requires : tie.Need-joint-ok-requires Inv-loop μ-loop
-joint-ok-requires c κs = search needs
-
-add-result : tie.Need-add-result Inv-loop μ-loop
-add-result c = omega arith
-
-returns : tie.Need-returns Inv-loop μ-loop
-returns c = scan-found (c .before .before .before .loop .inv) (c .before .before .loop-test .taken) (c .before .joint-ok .ensures) (c .if1 .taken)
-
-add-i : tie.Need-add-i Inv-loop μ-loop
-add-i c = omega arith
-
-loop-less : tie.Need-loop-less Inv-loop μ-loop
-loop-less c = omega arith
-
-loop-again : tie.Need-loop-again Inv-loop μ-loop
-loop-again c = scan-more (c .before .before .before .loop .inv) (c .before .before .loop-test .taken) (c .before .joint-ok .ensures) (c .if1 .left)
-
-returns-2 : tie.Need-returns-2 Inv-loop μ-loop
-returns-2 c = scan-over (c .before .loop .inv) (c .loop-test .left)
+μ-loop next previous n s₀ s = n - s
 
 pub first-unjoined-spec : {M : Type 1} → statement M
 first-unjoined-spec =
@@ -45,12 +19,10 @@ first-unjoined-spec =
     (tie.spec
     Inv-loop
     μ-loop
-    loop-holds
-    add-joint-ok
-    joint-ok-requires
-    add-result
-    returns
-    add-i
-    loop-less
-    loop-again
-    returns-2)
+    (λ c. scan-begin)
+    (λ c. omega arith)
+    (λ c κs. search needs)
+    (λ c. scan-found (c .before .before .before .loop .inv) (c .before .before .loop-test .taken) (c .before .joint-ok .ensures) (c .if1 .taken))
+    (λ c. omega arith)
+    (λ c. scan-more (c .before .before .before .loop .inv) (c .before .before .loop-test .taken) (c .before .joint-ok .ensures) (c .if1 .left))
+    (λ c. scan-over (c .before .loop .inv) (c .loop-test .left)))

@@ -1,0 +1,88 @@
+-- The walk along the route keeps `Walked`; each early return names the test of the rule that fails.
+use Prim.Native.Nat.{_-_}
+use native.Mathlib.Omega.{arith}
+use borrow.Author.Needs.{needs}
+use borrow.Author.Tests.{not-false}
+use denote.Ref.{now}
+use Rattle.lists.proofs.Cases.{test-fails, test-holds, facts}
+use Rattle.routes.proofs.Routes.{bad-count, bad-rest, Counted, Walked, walk-begin, walk-stops, walk-more, walk-fails, walk-over}
+use Rattle.routes.proofs.used_route_ok.Statement.{statement}
+use Rattle.routes.proofs.used_route_ok.Tie as tie
+
+abbrev Inv-loop : tie.InvT-loop
+Inv-loop next routebytes n r count before₀ p₀ before p = Walked next routebytes n r count before p
+
+abbrev μ-loop : tie.MeasureT-loop
+μ-loop next routebytes n r count before₀ p₀ before p = count - p
+
+counted : (c : tie.Else2 Inv-loop μ-loop) → let a = c .before .before .before .before .args in Counted (now (a .next)) (now (a .routebytes)) (a .n) (a .r) (c .before .before .before .count-of .result)
+counted c =
+    let e = c .before .before in
+    record { read = e .before .count-of .ensures; bounds = not-false _ (e .if1 .left); rest = test-holds (c .before .rest-zero .ensures) (c .if2 .left) }
+
+count-of-requires : tie.Need-count-of-requires Inv-loop μ-loop
+count-of-requires c κs = search needs
+
+returns : tie.Need-returns Inv-loop μ-loop
+returns c = bad-count _ _ _ _ (c .before .count-of .ensures) (c .if1 .taken)
+
+rest-zero-requires : tie.Need-rest-zero-requires Inv-loop μ-loop
+rest-zero-requires c κs = search needs
+
+returns-2 : tie.Need-returns-2 Inv-loop μ-loop
+returns-2 c = bad-rest _ _ _ _ (test-fails (c .before .rest-zero .ensures) (c .if2 .taken))
+
+route-byte-requires : tie.Need-route-byte-requires Inv-loop μ-loop
+route-byte-requires c κs = omega arith
+
+returns-3 : tie.Need-returns-3 Inv-loop μ-loop
+returns-3 c = walk-stops _ _ _ _ (counted (c .before .before)) (c .before .route-byte .ensures) (c .if3 .taken)
+
+loop-holds : tie.Need-loop-holds Inv-loop μ-loop
+loop-holds c = walk-begin _ _ _ _ (counted (c .before .before)) (c .before .route-byte .ensures) (c .if3 .left)
+
+add-p : tie.Need-add-p Inv-loop μ-loop
+add-p c = omega arith
+
+route-byte-requires-2 : tie.Need-route-byte-requires-2 Inv-loop μ-loop
+route-byte-requires-2 c κs = let f = simp facts at (c .before .loop .inv .counted .bounds) in omega arith
+
+links-to-requires : tie.Need-links-to-requires Inv-loop μ-loop
+links-to-requires c κs = search needs
+
+returns-4 : tie.Need-returns-4 Inv-loop μ-loop
+returns-4 c =
+    let l = c .before .before .before in
+    walk-fails _ _ _ _ (l .before .loop .inv) (l .loop-test .taken) (c .before .before .route-byte2 .ensures) (c .before .links-to .ensures) (c .if4 .taken)
+
+loop-less : tie.Need-loop-less Inv-loop μ-loop
+loop-less c = omega arith
+
+loop-again : tie.Need-loop-again Inv-loop μ-loop
+loop-again c =
+    let l = c .before .before .before in
+    walk-more _ _ _ _ (l .before .loop .inv) (l .loop-test .taken) (c .before .before .route-byte2 .ensures) (c .before .links-to .ensures) (c .if4 .left)
+
+returns-5 : tie.Need-returns-5 Inv-loop μ-loop
+returns-5 c = walk-over _ _ _ _ (c .before .loop .inv) (c .loop-test .left)
+
+pub used-route-ok-spec : {M : Type 1} → statement M
+used-route-ok-spec =
+    tie.close
+    (tie.spec
+    Inv-loop
+    μ-loop
+    count-of-requires
+    returns
+    rest-zero-requires
+    returns-2
+    route-byte-requires
+    returns-3
+    loop-holds
+    add-p
+    route-byte-requires-2
+    links-to-requires
+    returns-4
+    loop-less
+    loop-again
+    returns-5)
