@@ -3,7 +3,7 @@ use Prim.Native.Nat.{ℕ, _+_, _-_, _/_, _%_}
 use mathlib.Core.List.{List}
 use Rattle.lists.specs.Words.{tabulate}
 use Rattle.file.specs.Bytes.{byteAt, twoAt, fourAt}
-use Rattle.file.specs.Layout.{headerBlock, inHeader, segmentBlockOf, segmentStart, inSegment, routeSize, routeBlockOf, routeStart}
+use Rattle.file.specs.Layout.{headerBlock, inHeader, segmentBlockOf, segmentStart, inSegment, routeBlocks, routeZeros}
 use Rattle.file.specs.Blocks.{block}
 use Rattle.tables.specs.declared.Tables.{Tables}
 
@@ -24,12 +24,9 @@ linkIn place file k = byteAt (segmentBlock file ((k + 1) / 2)) (segmentStart ((k
 unfoldable pub flagsIn : List ℕ → ℕ → ℕ
 flagsIn file s = byteAt (segmentBlock file s) (segmentStart s + inSegment .flags)
 
--- byte i of route record r, counted from 0; and byte k of all records, counted from 1
-abbrev pub routeByte : List ℕ → (r i : ℕ) → ℕ
-routeByte file r i = byteAt (block file (routeBlockOf r)) (routeStart r + i)
-
+-- byte k of all route records, counted from 1; a route block has as many of them as stand before its zeros
 unfoldable pub routeByteIn : List ℕ → ℕ → ℕ
-routeByteIn file k = routeByte file ((k - 1) / routeSize + 1) ((k - 1) % routeSize)
+routeByteIn file k = byteAt (block file (routeBlocks + (k - 1) / routeZeros)) ((k - 1) % routeZeros)
 
 unfoldable pub decoded : List ℕ → Tables
 decoded file =

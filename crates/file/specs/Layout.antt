@@ -91,14 +91,11 @@ segmentBytes length limit next1 next2 previous1 previous2 flags =
     four length ++ two limit ++ next1 ∷ next2 ∷ previous1 ∷ previous2 ∷ flags ∷ replicate 5 0
 
 -- route records, 32 bytes, 15 a block: the block of record r, and where it starts there; after the records, zeros up to the tail
-abbrev pub routeSize : ℕ
-routeSize = 32
-
 abbrev pub routeBlockOf : ℕ → ℕ
 routeBlockOf r = routeBlocks + (r - 1) / 15
 
 abbrev pub routeStart : ℕ → ℕ
-routeStart r = routeSize * ((r - 1) % 15)
+routeStart r = 32 * ((r - 1) % 15)
 
 abbrev pub routeZeros : ℕ
 routeZeros = 480

@@ -2,7 +2,7 @@
 ghost use mathlib.Core.Path.{_≡_};
 ghost use Prim.Native.Nat.{_<_};
 ghost use lib.ListN.{length};
-ghost use Rattle.file.specs.Bytes.{byteAt, twoAt, fourAt, zeros, putAt};
+ghost use Rattle.file.specs.Bytes.{byteAt, twoAt, fourAt, two, four, zeros, putAt};
 ghost use Rattle.file.specs.Layout.{blockSize, fileSize, kindOf};
 ghost use Rattle.file.specs.Blocks.{block, intact, filed, blockMeets, firstBreaking, firstDamaged, firstMisfiled};
 
@@ -32,6 +32,26 @@ pub fn four_at(s: &[u8], at: u16) -> u32
     let low = two_at(s, i);
     let high = two_at(s, i + 2);
     (low as u32) + 65536 * (high as u32)
+}
+
+// A number as two bytes and as four, the least first.
+pub fn two(n: u16) -> [u8; 2]
+    ensures { λ r. ⌜ r ≡ two n ⌝ }
+{
+    [(n % 256) as u8, (n / 256) as u8]
+}
+
+pub fn four(n: u32) -> [u8; 4]
+    ensures { λ r. ⌜ r ≡ four n ⌝ }
+{
+    let low = n % 65536;
+    let high = n / 65536;
+    [
+        (low % 256) as u8,
+        (low / 256) as u8,
+        (high % 256) as u8,
+        (high / 256) as u8,
+    ]
 }
 
 // Puts a row of bytes into a buffer from a place on, as far as that has room.

@@ -13,7 +13,7 @@ use Rattle.lists.specs.Words.{at, tabulate}
 use Rattle.lists.proofs.Numbered.{nth-tabulate, nth-index, length-tabulate}
 use Rattle.lists.proofs.Cases.{by-test, not-both, is-false, and-iff, cases, lt-or-le}
 use Rattle.file.specs.Bytes.{byteAt}
-use Rattle.file.specs.Layout.{blockSize, fileSize, routeBlockOf, routeStart}
+use Rattle.file.specs.Layout.{blockSize, fileSize}
 use Rattle.file.specs.Blocks.{block}
 use Rattle.tables.specs.Bounds.{mostRoutes, longestRoute}
 use Rattle.tables.specs.Tables.{countOf, segmentAt}
@@ -32,11 +32,10 @@ route-byte : (file : List ℕ) (r p : ℕ) → 1 ≤ r → r ≤ mostRoutes → 
 unfolding decoded routeByteIn
 route-byte file r p low high small =
     let k = 32 * r - 31 + p in
-    let record-of : (k - 1) / 32 + 1 ≡ r = omega arith in
-    let byte-of : (k - 1) % 32 ≡ p = omega arith in
-    let e : 512 * routeBlockOf r + (routeStart r + p) ≡ startInFile r + p = omega arith in
+    let e : 512 * (3 + (k - 1) / 480) + (k - 1) % 480 ≡ startInFile r + p = omega arith in
     nth-tabulate 0 960 (routeByteIn file) k (omega arith) (omega arith)
-    ∙ rw (record-of, byte-of) (byte-in-block file (routeBlockOf r) (routeStart r + p) (omega arith) ∙ ap (λ (i : ℕ). byteAt file i) e)
+    ∙ byte-in-block file (3 + (k - 1) / 480) ((k - 1) % 480) (omega arith)
+    ∙ ap (λ (i : ℕ). byteAt file i) e
 
 -- what it takes that a route is shown
 pub record Shown (file : List ℕ) (r : ℕ) : Type 0 where

@@ -1,11 +1,7 @@
--- An array of the route records' bytes, computed by number: a route block holds 480 of them.
-use Prim.Native.Nat.{ℕ, _+_, _-_, _*_, _/_, _%_}
+use Prim.Native.Nat.{_+_, _-_}
 use mathlib.Core.Path.{_≡_}
-use mathlib.Core.List.{List}
 use native.Mathlib.Omega.{arith}
 use borrow.Author.Needs.{needs}
-use Rattle.file.specs.Bytes.{byteAt}
-use Rattle.file.specs.Blocks.{block}
 use Rattle.decoding.specs.Decoding.{routeByteIn}
 use Rattle.lists.proofs.Loops.{Tabled, table-begin, table-more, table-over}
 use Rattle.decoding.proofs.routebytes_of.Statement.{statement}
@@ -38,19 +34,13 @@ add-i c = omega arith
 loop-less : tie.Need-loop-less Inv-loop μ-loop
 loop-less c = omega arith
 
--- byte i of all records, counted from 0, is byte i % 480 of a block of 15 records
-in-block : (file : List ℕ) (i : ℕ) → byteAt (block file (3 + i / 480)) (i % 480) ≡ routeByteIn file (i + 1)
-unfolding routeByteIn
-in-block file i =
-    let e : i + 1 - 1 ≡ i = omega arith in
-    let number : 3 + (i / 32 + 1 - 1) / 15 ≡ 3 + i / 480 = omega arith in
-    let place : 32 * ((i / 32 + 1 - 1) % 15) + i % 32 ≡ i % 480 = omega arith in
-    rw (e, number, place)
-
 loop-again : tie.Need-loop-again Inv-loop μ-loop
+unfolding routeByteIn
 loop-again c =
+    let i = c .before .before .before .loop .i in
+    let e : i + 1 - 1 ≡ i = omega arith in
     table-more (c .before .before .before .loop .inv) (c .before .before .loop-test .taken)
-    (simp (c .byte .ensures, c .before .block-of .ensures .0) (in-block _ _))
+    (simp (e, c .byte .ensures, c .before .block-of .ensures .0))
 
 returns : tie.Need-returns Inv-loop μ-loop
 returns c = table-over (c .before .loop .inv) (c .loop-test .left)
