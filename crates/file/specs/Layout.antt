@@ -1,5 +1,5 @@
 -- Where everything stands in an area file (document 01, "The area file"), each number once: the places, for reading, and what a
--- tail, a header and a record are as rows of bytes, for writing. Bytes and blocks are counted from 0, records from 1.
+-- block, a header and a record are as rows of bytes, for writing. Bytes and blocks are counted from 0, records from 1.
 use Prim.Native.Nat.{ℕ, _+_, _-_, _*_, _/_, _%_}
 use mathlib.Core.List.{List, [], _∷_, _++_}
 use lib.ListN.{length, replicate}
@@ -46,6 +46,10 @@ kindOf k = if eqb k headerBlock then 1 else (if ltb k routeBlocks then 2 else 3)
 abbrev pub tailBytes : (number first second : ℕ) → List ℕ
 tailBytes number first second = kindOf number ∷ number ∷ replicate 12 0 ++ first ∷ second ∷ []
 
+-- a block: what it holds, zeros up to the tail, the tail with the two sums of its check
+abbrev pub blockBytes : (number : ℕ) (held : List ℕ) (first second : ℕ) → List ℕ
+blockBytes number held first second = held ++ replicate (inTail .kind - length held) 0 ++ tailBytes number first second
+
 -- the header: version, segments, routes, a zero, `gmax`, `b`, `d`, zeros up to the tail
 pub record HeaderPlaces : Type 0 where
   pub version : ℕ
@@ -64,7 +68,7 @@ abbrev pub version : ℕ
 version = 1
 
 abbrev pub headerBytes : (segments routes gmax b d : ℕ) → List ℕ
-headerBytes segments routes gmax b d = version ∷ segments ∷ routes ∷ 0 ∷ two gmax ++ two b ++ four d ++ replicate 484 0
+headerBytes segments routes gmax b d = version ∷ segments ∷ routes ∷ 0 ∷ two gmax ++ two b ++ four d
 
 -- segment records, 16 bytes, 31 a block: the block of record s, and where it starts there
 abbrev pub segmentBlockOf : ℕ → ℕ

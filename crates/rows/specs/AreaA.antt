@@ -3,7 +3,7 @@ use Prim.Native.Nat.{ℕ}
 use mathlib.Core.Bool.{false}
 use mathlib.Core.List.{List, [], _∷_, _++_}
 use lib.ListN.{replicate}
-use Rattle.file.specs.Layout.{tailBytes, headerBytes, segmentBytes, routeBytes}
+use Rattle.file.specs.Layout.{blockBytes, headerBytes, segmentBytes, routeBytes}
 use Rattle.decoding.specs.Decoding.{decoded}
 use Rattle.trains.specs.Train.{off}
 use Rattle.area.specs.declared.Area.{Area}
@@ -11,28 +11,25 @@ use Rattle.area.specs.Calls.{positionDue}
 
 -- block 0: 3 segments, 2 routes, `gmax` 300, `b` 10, `d`; the check is given
 unfoldable pub header : (d first second : ℕ) → List ℕ
-header d first second = headerBytes 3 2 300 10 d ++ tailBytes 0 first second
+header d first second = blockBytes 0 (headerBytes 3 2 300 10 d) first second
 
--- block 1: segments 1, 2 and 3, and 28 records of zeros; the length of segment 2, the limit of segment 3 and the check are given
+-- block 1: segments 1, 2 and 3; the length of segment 2, the limit of segment 3 and the check are given
 unfoldable pub segments : (length2 limit3 first second : ℕ) → List ℕ
 segments length2 limit3 first second =
-    segmentBytes 6000 300 3 0 0 0 1
-    ++ segmentBytes length2 290 3 0 0 0 1
-    ++ segmentBytes 8000 limit3 0 0 1 2 2
-    ++ replicate 448 0
-    ++ tailBytes 1 first second
+    blockBytes 1
+    (segmentBytes 6000 300 3 0 0 0 1 ++ segmentBytes length2 290 3 0 0 0 1 ++ segmentBytes 8000 limit3 0 0 1 2 2) first second
 
--- block 2: 31 records of zeros
+-- block 2: no segment
 unfoldable pub noSegments : List ℕ
-noSegments = replicate 496 0 ++ tailBytes 2 4 54
+noSegments = blockBytes 2 [] 4 54
 
--- block 3: routes 1-3 and 2-3, and 13 records and 16 bytes of zeros
+-- block 3: routes 1-3 and 2-3
 unfoldable pub routes : List ℕ
-routes = routeBytes (1 ∷ 3 ∷ []) ++ routeBytes (2 ∷ 3 ∷ []) ++ replicate 432 0 ++ tailBytes 3 19 97
+routes = blockBytes 3 (routeBytes (1 ∷ 3 ∷ []) ++ routeBytes (2 ∷ 3 ∷ [])) 19 97
 
--- block 4: 15 records and 16 bytes of zeros
+-- block 4: no route
 unfoldable pub noRoutes : List ℕ
-noRoutes = replicate 496 0 ++ tailBytes 4 7 94
+noRoutes = blockBytes 4 [] 7 94
 
 -- the five blocks, of which an edge changes block 0 or block 1
 unfoldable pub file : (block0 block1 : List ℕ) → List ℕ
