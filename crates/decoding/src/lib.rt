@@ -3,8 +3,8 @@ ghost use mathlib.Core.Path.{_≡_};
 ghost use Prim.Native.Nat.{_<_, _+_};
 ghost use lib.ListN.{length};
 ghost use Rattle.lists.specs.Words.{tabulate};
-ghost use Rattle.file.specs.Blocks.{fileSize};
-ghost use Rattle.decoding.specs.Decoding.{segmentBlock, segmentStart, lengthIn, limitIn, linkIn, flagsIn, routeByteIn, decoded};
+ghost use Rattle.file.specs.Layout.{fileSize, segmentStart};
+ghost use Rattle.decoding.specs.Decoding.{segmentBlock, lengthIn, limitIn, linkIn, flagsIn, routeByteIn, decoded};
 use tables::Tables;
 
 // The block of segment record i + 1.
@@ -39,7 +39,7 @@ fn limits_of(file: &[u8]) -> [u16; 62]
 {
     let mut limits = [0u16; 62];
     for i in 0..62 {
-        limits[i] = file::two_at(segment_block(file, i), segment_start(i) + 4);
+        limits[i] = file::two_at(segment_block(file, i), segment_start(i) as u32 + 4);
     }
     limits
 }

@@ -1,1 +1,3 @@
+pub mod Fields
 pub mod Laws
+pub mod Rows

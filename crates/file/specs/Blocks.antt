@@ -6,15 +6,8 @@ use lib.ListN.{take, drop}
 use lib.Dec.{eqb, ltb}
 use Rattle.lists.specs.Words.{if_then_else_, firstFailing}
 use Rattle.file.specs.Bytes.{byteAt, zeros}
-
-abbrev pub blockSize : ℕ
-blockSize = 512
-
-abbrev pub blocks : ℕ
-blocks = 5
-
-abbrev pub fileSize : ℕ
-fileSize = 2560
+pub use Rattle.file.specs.Layout.{blocks, blockSize, fileSize}
+use Rattle.file.specs.Layout.{routeBlocks, inTail, kindOf, routeZeros}
 
 -- the block of a number, 0 to 4
 unfoldable pub block : List ℕ → ℕ → List ℕ
@@ -31,21 +24,30 @@ addByte s b = record { first = (s .first + b) % 255; second = (s .second + (s .f
 unfoldable pub sums : List ℕ → Sums
 sums s = foldl addByte (record { first = 0; second = 0 }) s
 
--- the sums of bytes 0 to 509 are those stored in bytes 510 and 511
+-- the sums of the bytes before the check are those stored in its two
 unfoldable pub intact : List ℕ → Bool
-intact b = eqb (sums (take 510 b) .first) (byteAt b 510) && eqb (sums (take 510 b) .second) (byteAt b 511)
+intact b =
+    eqb (sums (take (inTail .check) b) .first) (byteAt b (inTail .check))
+    && eqb (sums (take (inTail .check) b) .second) (byteAt b (inTail .check + 1))
 
--- 1 header, 2 and 2 segments, 3 and 3 routes
-unfoldable pub kindOf : ℕ → ℕ
-kindOf k = if eqb k 0 then 1 else (if ltb k 3 then 2 else 3)
-
--- byte 496 kind, 497 block number, 498 to 509 zero; of a route block bytes 480 to 495 too
+-- kind, block number and zeros are those of block k; of a route block the zeros before the tail too
 unfoldable pub filed : List ℕ → ℕ → Bool
-filed b k = eqb (byteAt b 496) (kindOf k) && eqb (byteAt b 497) k && zeros b 498 509 && (ltb k 3 || zeros b 480 495)
+filed b k =
+    eqb (byteAt b (inTail .kind)) (kindOf k)
+    && eqb (byteAt b (inTail .number)) k
+    && zeros b (inTail .zeros) (inTail .zerosLast)
+    && (ltb k routeBlocks || zeros b routeZeros (inTail .body))
 
--- the first block whose check differs, and the first that is misfiled; counted from 1, so that 0 stands for none
+-- rule 2 or rule 3 of block k, and the first block that breaks it; counted from 1, so that 0 stands for none
+abbrev pub blockMeets : (rule : ℕ) → List ℕ → ℕ → Bool
+blockMeets rule b k = if eqb rule 2 then intact b else filed b k
+
+abbrev pub firstBreaking : (rule : ℕ) → List ℕ → ℕ
+firstBreaking rule file = firstFailing blocks (λ (n : ℕ). blockMeets rule (block file (n - 1)) (n - 1))
+
+-- the first block whose check differs, and the first that is misfiled
 unfoldable pub firstDamaged : List ℕ → ℕ
-firstDamaged file = firstFailing blocks (λ (n : ℕ). intact (block file (n - 1)))
+firstDamaged file = firstBreaking 2 file
 
 unfoldable pub firstMisfiled : List ℕ → ℕ
-firstMisfiled file = firstFailing blocks (λ (n : ℕ). filed (block file (n - 1)) (n - 1))
+firstMisfiled file = firstBreaking 3 file

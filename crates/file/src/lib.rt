@@ -2,8 +2,9 @@
 ghost use mathlib.Core.Path.{_≡_};
 ghost use Prim.Native.Nat.{_<_};
 ghost use lib.ListN.{length};
-ghost use Rattle.file.specs.Bytes.{byteAt, twoAt, fourAt, zeros};
-ghost use Rattle.file.specs.Blocks.{blockSize, fileSize, block, kindOf, intact, filed, firstDamaged, firstMisfiled};
+ghost use Rattle.file.specs.Bytes.{byteAt, twoAt, fourAt, two, four, zeros, putAt};
+ghost use Rattle.file.specs.Layout.{blockSize, fileSize, kindOf};
+ghost use Rattle.file.specs.Blocks.{block, intact, filed, blockMeets, firstBreaking, firstDamaged, firstMisfiled};
 
 pub const FILE_SIZE: usize = 2560;
 
@@ -14,8 +15,8 @@ pub fn byte(s: &[u8], at: usize) -> u8
     if at < s.len() { s[at] } else { 0 }
 }
 
-// Places are 16-bit numbers, so that no sum of one can wrap.
-pub fn two_at(s: &[u8], at: u16) -> u16
+// The place of a number is narrower than the sums on it, so that none can wrap.
+pub fn two_at(s: &[u8], at: u32) -> u16
     ensures { λ r. ⌜ r ≡ twoAt (now (s .entry)) at ⌝ }
 {
     let i = at as usize;
@@ -27,12 +28,45 @@ pub fn two_at(s: &[u8], at: u16) -> u16
 pub fn four_at(s: &[u8], at: u16) -> u32
     ensures { λ r. ⌜ r ≡ fourAt (now (s .entry)) at ⌝ }
 {
-    let i = at as usize;
-    let a = byte(s, i);
-    let b = byte(s, i + 1);
-    let c = byte(s, i + 2);
-    let d = byte(s, i + 3);
-    (a as u32) + 256 * (b as u32) + 65536 * ((c as u32) + 256 * (d as u32))
+    let i = at as u32;
+    let low = two_at(s, i);
+    let high = two_at(s, i + 2);
+    (low as u32) + 65536 * (high as u32)
+}
+
+// A number as two bytes and as four, the least first.
+pub fn two(n: u16) -> [u8; 2]
+    ensures { λ r. ⌜ r ≡ two n ⌝ }
+{
+    [(n % 256) as u8, (n / 256) as u8]
+}
+
+pub fn four(n: u32) -> [u8; 4]
+    ensures { λ r. ⌜ r ≡ four n ⌝ }
+{
+    let low = n % 65536;
+    let high = n / 65536;
+    [
+        (low % 256) as u8,
+        (low / 256) as u8,
+        (high % 256) as u8,
+        (high / 256) as u8,
+    ]
+}
+
+// Puts a row of bytes into a buffer from a place on, as far as that has room.
+pub fn put(buffer: &mut [u8], at: u16, row: &[u8])
+    ensures { λ _. ⌜ now (buffer .exit) ≡ putAt at (now (row .entry)) (now (buffer .entry)) ⌝ }
+{
+    let start = at as usize;
+    let mut j: usize = 0;
+    while j < row.len() {
+        if buffer.len() <= start + j {
+            return;
+        }
+        buffer[start + j] = row[j];
+        j += 1;
+    }
 }
 
 // The bytes from the first to the last place are zero.
@@ -91,17 +125,35 @@ fn is_filed(block: &[u8], k: u8) -> bool
         & ((k < 3) | are_zeros(block, 480, 495))
 }
 
+fn block_meets(rule: u8, block: &[u8], k: u8) -> bool
+    requires { ⌜ length (now block) ≡ blockSize ⌝ }
+    ensures { λ r. ⌜ r ≡ blockMeets rule (now (block .entry)) k ⌝ }
+{
+    if rule == 2 {
+        return is_intact(block);
+    }
+    is_filed(block, k)
+}
+
+// The first block that breaks rule 2 or 3, counted from 1; 0 where there is none.
+fn first_breaking(rule: u8, file: &[u8]) -> u8
+    requires { ⌜ length (now file) ≡ fileSize ⌝ }
+    ensures { λ r. ⌜ r ≡ firstBreaking rule (now (file .entry)) ⌝ }
+{
+    for k in 0..5 {
+        if !block_meets(rule, block_of(file, k), k as u8) {
+            return (k + 1) as u8;
+        }
+    }
+    0
+}
+
 // The first block whose check differs, counted from 1; 0 where there is none.
 pub fn first_damaged(file: &[u8]) -> u8
     requires { ⌜ length (now file) ≡ fileSize ⌝ }
     ensures { λ r. ⌜ r ≡ firstDamaged (now (file .entry)) ⌝ }
 {
-    for k in 0..5 {
-        if !is_intact(block_of(file, k)) {
-            return (k + 1) as u8;
-        }
-    }
-    0
+    first_breaking(2, file)
 }
 
 // The first block with a wrong kind, number or zero, counted from 1; 0 where there is none.
@@ -109,10 +161,5 @@ pub fn first_misfiled(file: &[u8]) -> u8
     requires { ⌜ length (now file) ≡ fileSize ⌝ }
     ensures { λ r. ⌜ r ≡ firstMisfiled (now (file .entry)) ⌝ }
 {
-    for k in 0..5 {
-        if !is_filed(block_of(file, k), k as u8) {
-            return (k + 1) as u8;
-        }
-    }
-    0
+    first_breaking(3, file)
 }

@@ -3,7 +3,7 @@ ghost use mathlib.Core.Path.{_≡_};
 ghost use Prim.Native.Nat.{_/_};
 ghost use lib.ListN.{length, take, drop};
 ghost use Rattle.lists.specs.Words.{tabulate, firstFailing};
-ghost use Rattle.file.specs.Blocks.{fileSize};
+ghost use Rattle.file.specs.Layout.{fileSize};
 ghost use Rattle.input.specs.Input.{itemIn, kindKnown};
 
 // The items that spell the longest script: 32 a call.
@@ -35,7 +35,7 @@ pub fn items_of(script: &[u8]) -> [u16; MOST_ITEMS]
 {
     let mut items = [0u16; MOST_ITEMS];
     for i in 0..MOST_ITEMS {
-        items[i] = file::two_at(script, (2 * i) as u16);
+        items[i] = file::two_at(script, (2 * i) as u32);
     }
     items
 }

@@ -7,21 +7,25 @@ use lib.Dec.{ltb, eqb}
 use Rattle.lists.specs.Words.{if_then_else_, firstFailing}
 use Rattle.lists.specs.Tests.{Test, _⇒_, _⇒_place_, firstOf}
 use Rattle.file.specs.Bytes.{byteAt, zeros}
+use Rattle.file.specs.Layout.{inTail, headerBlock, inHeader, version, segmentStart, inSegment}
 use Rattle.file.specs.Blocks.{fileSize, block, firstDamaged, firstMisfiled}
 use Rattle.tables.specs.declared.Tables.{Tables}
 use Rattle.tables.specs.Bounds.{mostSegments, mostRoutes}
 use Rattle.tables.specs.Tables.{blankTables}
 use Rattle.tables.specs.Rules.{headerOk, marginOk, segmentOk, jointOk, orderOk, dropOk, routeOk}
-use Rattle.decoding.specs.Decoding.{segmentBlock, segmentStart, decoded}
+use Rattle.decoding.specs.Decoding.{segmentBlock, decoded}
 use Rattle.reading.specs.declared.Reading.{Reading}
 
--- rule 4 of what the tables do not keep: byte 0 version 1, byte 3 zero, 12-495 zero
+-- rule 4 of what the tables do not keep: the version, the zero after the routes, the zeros up to the tail
 unfoldable pub headerFiled : List ℕ → Bool
-headerFiled file = eqb (byteAt (block file 0) 0) 1 && eqb (byteAt (block file 0) 3) 0 && zeros (block file 0) 12 495
+headerFiled file =
+    eqb (byteAt (block file headerBlock) (inHeader .version)) version
+    && eqb (byteAt (block file headerBlock) (inHeader .zero)) 0
+    && zeros (block file headerBlock) (inHeader .zeros) (inTail .body)
 
 -- rule 6 of what the tables do not keep: the five zeros that end segment record s
 unfoldable pub reserved : List ℕ → ℕ → Bool
-reserved file s = zeros (segmentBlock file s) (segmentStart s + 11) (segmentStart s + 15)
+reserved file s = zeros (segmentBlock file s) (segmentStart s + inSegment .zeros) (segmentStart s + inSegment .zerosLast)
 
 -- rule 6 of the whole record s
 unfoldable pub recordOk : List ℕ → Tables → ℕ → Bool

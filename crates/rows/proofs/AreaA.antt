@@ -8,8 +8,9 @@ use Rattle.lists.specs.Words.{nth, every, least, tabulate, firstFailing}
 use Rattle.lists.specs.Tests.{Test, _⇒_, firstOf}
 use Rattle.lists.proofs.Loops.{every-at, least-same}
 use Rattle.braking.specs.Braking.{fallingSum, S}
-use Rattle.file.specs.Bytes.{twoAt, fourAt, zeros}
-use Rattle.file.specs.Blocks.{fileSize, block, sums, intact, kindOf, filed, firstDamaged, firstMisfiled}
+use Rattle.file.specs.Bytes.{twoAt, fourAt, two, four, zeros}
+use Rattle.file.specs.Layout.{fileSize, kindOf}
+use Rattle.file.specs.Blocks.{block, sums, intact, filed, firstDamaged, firstMisfiled}
 use Rattle.decoding.specs.Decoding.{segmentBlock, lengthIn, limitIn, linkIn, flagsIn, routeByteIn, decoded}
 use Rattle.reading.specs.Verdict.{headerFiled, reserved, recordOk, atBlock, atNumber, verdict}
 use Rattle.tables.specs.declared.Tables.{Tables}
@@ -18,7 +19,7 @@ use Rattle.tables.specs.Tables.{linksTo, countOf, segmentAt}
 use Rattle.tables.specs.Rules.{headerIn, headerOk, marginOk, linksOk, usedOk, unusedOk, rowOk, segmentOk, matched, jointIn, jointOk, orderIn, orderOk, dropIn, dropOk, usedRouteOk, unusedRouteOk, routeIn, routeOk}
 use Rattle.answers.specs.Answers.{answerOf}
 use Rattle.loading.specs.Load.{loaded}
-use Rattle.rows.specs.AreaA.{two, four, header, segments, noSegments, routes, noRoutes, file}
+use Rattle.rows.specs.AreaA.{header, segments, noSegments, routes, noRoutes, file}
 
 -- the tables of Area A
 unfoldable pub tablesOf : (d length2 limit3 : ℕ) → Tables
@@ -49,7 +50,7 @@ module _ (d length2 limit3 first0 second0 first1 second1 : ℕ) where
 
   -- where `bytes` unfolds, all its bytes are seen
   bytes : List ℕ
-  unfolding file header segments noSegments routes noRoutes
+  unfolding file header segments noSegments routes noRoutes kindOf
   bytes = areaA
 
   blocks :

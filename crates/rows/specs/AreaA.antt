@@ -1,53 +1,35 @@
 -- Area A of document 01: its file, block by block, and a record of it. Bytes and numbers are in decimal.
-use Prim.Native.Nat.{ℕ, _/_, _%_}
+use Prim.Native.Nat.{ℕ}
 use mathlib.Core.Bool.{false}
 use mathlib.Core.List.{List, [], _∷_, _++_}
 use lib.ListN.{replicate}
+use Rattle.file.specs.Layout.{blockBytes, headerBytes, segmentBytes, routeBytes}
 use Rattle.decoding.specs.Decoding.{decoded}
 use Rattle.trains.specs.Train.{off}
 use Rattle.area.specs.declared.Area.{Area}
 use Rattle.trains.specs.Due.{positionDue}
 
--- a number as two bytes and as four, the least first
-abbrev pub two : ℕ → List ℕ
-two n = n % 256 ∷ n / 256 ∷ []
-
-abbrev pub four : ℕ → List ℕ
-four n = two (n % 65536) ++ two (n / 65536)
-
--- bytes 496 to 511 of a block: kind, block number, twelve zeros, the check
-abbrev pub tail : (kind number first second : ℕ) → List ℕ
-tail kind number first second = kind ∷ number ∷ replicate 12 0 ++ first ∷ second ∷ []
-
--- block 0: version 1, 3 segments, 2 routes, a zero, `gmax` 300, `b` 10, `d`; the check is given
+-- block 0: 3 segments, 2 routes, `gmax` 300, `b` 10, `d`; the check is given
 unfoldable pub header : (d first second : ℕ) → List ℕ
-header d first second = 1 ∷ 3 ∷ 2 ∷ 0 ∷ [] ++ two 300 ++ two 10 ++ four d ++ replicate 484 0 ++ tail 1 0 first second
+header d first second = blockBytes 0 (headerBytes 3 2 300 10 d) first second
 
--- a segment record
-abbrev pub segment : (length limit next1 next2 previous1 previous2 flags : ℕ) → List ℕ
-segment length limit next1 next2 previous1 previous2 flags =
-    four length ++ two limit ++ next1 ∷ next2 ∷ previous1 ∷ previous2 ∷ flags ∷ replicate 5 0
-
--- block 1: segments 1, 2 and 3, and 28 records of zeros; the length of segment 2, the limit of segment 3 and the check are given
+-- block 1: segments 1, 2 and 3; the length of segment 2, the limit of segment 3 and the check are given
 unfoldable pub segments : (length2 limit3 first second : ℕ) → List ℕ
 segments length2 limit3 first second =
-    segment 6000 300 3 0 0 0 1
-    ++ segment length2 290 3 0 0 0 1
-    ++ segment 8000 limit3 0 0 1 2 2
-    ++ replicate 448 0
-    ++ tail 2 1 first second
+    blockBytes 1
+    (segmentBytes 6000 300 3 0 0 0 1 ++ segmentBytes length2 290 3 0 0 0 1 ++ segmentBytes 8000 limit3 0 0 1 2 2) first second
 
--- block 2: 31 records of zeros
+-- block 2: no segment
 unfoldable pub noSegments : List ℕ
-noSegments = replicate 496 0 ++ tail 2 2 4 54
+noSegments = blockBytes 2 [] 4 54
 
--- block 3: routes 1-3 and 2-3, 32 bytes each, and 13 records and 16 bytes of zeros
+-- block 3: routes 1-3 and 2-3
 unfoldable pub routes : List ℕ
-routes = 2 ∷ 1 ∷ 3 ∷ replicate 29 0 ++ 2 ∷ 2 ∷ 3 ∷ replicate 29 0 ++ replicate 432 0 ++ tail 3 3 19 97
+routes = blockBytes 3 (routeBytes (1 ∷ 3 ∷ []) ++ routeBytes (2 ∷ 3 ∷ [])) 19 97
 
--- block 4: 15 records and 16 bytes of zeros
+-- block 4: no route
 unfoldable pub noRoutes : List ℕ
-noRoutes = replicate 496 0 ++ tail 3 4 7 94
+noRoutes = blockBytes 4 [] 7 94
 
 -- the five blocks, of which an edge changes block 0 or block 1
 unfoldable pub file : (block0 block1 : List ℕ) → List ℕ

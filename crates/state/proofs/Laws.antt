@@ -1,109 +1,80 @@
--- The bytes of the state by their places, a buffer that is being written, and the records that bytes spell.
-use Prim.Native.Nat.{ℕ, zero, suc, _+_, _-_, _*_, _/_, _%_, _≤_, _<_}
+-- The rows of bytes of the state and of the trains, put one after the other, and the records that bytes spell.
+use Prim.Native.Nat.{ℕ, _+_, _-_, _*_, _≤_, _<_}
 use mathlib.Core.Path.{_≡_, refl, sym, ap, _∙_}
-use mathlib.Core.Bool.{Bool, true, false, not}
-use mathlib.Core.List.{List, [], _∷_}
+use mathlib.Core.Bool.{Bool, true, false}
+use mathlib.Core.List.{List, [], _∷_, _++_}
 use native.Mathlib.Omega.{arith}
 use mir.Val.{boolByte}
-use lib.Dec.{leb, eqb}
-use lib.ListN.{length, set, length-set}
-use borrow.Author.Tests.{eq-eqb, ne-eqb, lt-ltb, le-ltb, le-leb, lt-leb}
-use Rattle.lists.specs.Words.{if_then_else_, at, each}
-use Rattle.lists.proofs.Numbered.{nth-out, each-keeps}
-use Rattle.lists.proofs.Loops.{filled, Made, make-begin, make-more, make-over}
-use Rattle.file.specs.Bytes.{byteAt, twoAt, fourAt}
-use Rattle.file.specs.Blocks.{fileSize}
+use lib.ListN.{length, getD, drop, replicate, length-append, drop-of-length-le}
+use lib.Seq.{drop-cons, take-all}
+use native.Mathlib.Numerals.{add-one}
+use borrow.Author.Tests.{eq-eqb, ne-eqb}
+use Rattle.lists.specs.Words.{if_then_else_}
+use Rattle.file.specs.Bytes.{two, four, putAt}
+use Rattle.file.specs.Layout.{fileSize}
+use Rattle.file.proofs.Rows.{put-nothing, put-next}
 use Rattle.tables.specs.Tables.{blankTables}
 use Rattle.decoding.specs.Decoding.{decoded}
 use Rattle.trains.specs.declared.Train.{Train}
-use Rattle.trains.specs.Train.{off, trainAt}
-use Rattle.state.specs.State.{stateSize, trainByte, stateByteIn, tablesOf, trainOf}
-
--- a train off is all zero
-same-either : (b : Bool) → _≡_ {A = ℕ} (if b then 0 else 0) 0
-same-either true = refl
-same-either false = refl
-
-off-byte : (j : ℕ) → trainByte off j ≡ 0
-unfolding trainByte
-off-byte j = simp same-either
+use Rattle.trains.specs.Train.{off}
+use Rattle.area.specs.declared.Area.{Area}
+use Rattle.state.specs.State.{trainBytes, trainRows, headBytes, stateBytes, stateInto, tablesOf}
 
 -- a truth value as a byte
-pub bool-byte : (b : Bool) → boolByte b ≡ (if b then 1 else 0)
+bool-byte : (b : Bool) → boolByte b ≡ (if b then 1 else 0)
 bool-byte true = refl
 bool-byte false = refl
 
--- a byte of the state, by the part that it stands in
-module _ (due : ℕ) (allocations : List ℕ) (trains : List Train) (i : ℕ) where
-  pub byte-due : i ≡ 0 → due ≡ stateByteIn due allocations trains i
-  unfolding stateByteIn
-  byte-due e = rw e
+-- the ten bytes of a train that hold something, put into zeros; p and v are the bytes of its position and of its speed
+pub train-put :
+    (x : Train) {p v : List ℕ} → p ≡ four (x .position) → v ≡ two (x .speed)
+    → putAt 0
+    (x .route ∷ x .place ∷ boolByte (x .asks) ∷ 0 ∷ getD p 0 0 ∷ getD p 1 0 ∷ getD p 2 0 ∷ getD p 3 0 ∷ getD v 0 0 ∷ getD v 1 0 ∷ [])
+    (replicate 32 0)
+    ≡ trainBytes x
+unfolding putAt
+train-put x e f = rw (e, f, bool-byte (x .asks))
 
-  pub byte-allocation : (i ≡ 0 → ⊥) → i < 64 → at allocations i ≡ stateByteIn due allocations trains i
-  unfolding stateByteIn
-  byte-allocation n h = rw (ne-eqb i 0 n, lt-ltb i 64 h)
+-- 64 bytes of zeros into which the step due and the allocations are put
+pub head-put :
+    (due : ℕ) (allocations : List ℕ) → length allocations ≡ 62 → putAt 1 allocations (due ∷ replicate 63 0) ≡ headBytes due allocations
+unfolding putAt
+head-put due allocations long = rw (long, take-all 63 allocations (omega arith))
 
-  pub byte-train : 64 ≤ i → trainByte (trainAt trains ((i - 64) / 32 + 1)) ((i - 64) % 32) ≡ stateByteIn due allocations trains i
-  unfolding stateByteIn
-  byte-train h = rw (ne-eqb i 0 (λ e. omega arith), le-ltb i 64 h)
-
-  pub byte-past : length trains ≡ 24 → stateSize ≤ i → 0 ≡ stateByteIn due allocations trains i
-  byte-past long h =
-      sym (off-byte ((i - 64) % 32))
-      ∙ ap (λ (x : Train). trainByte x ((i - 64) % 32)) (sym (nth-out off trains ((i - 64) / 32 + 1) (omega arith)))
-      ∙ byte-train (omega arith)
-
--- what the code writes at number n of a buffer, x being what stands there
-abbrev pub writes : ℕ → List ℕ → List Train → ℕ → ℕ → ℕ
-writes due allocations trains n x = if leb n stateSize then stateByteIn due allocations trains (n - 1) else x
-
--- the first i entries are made, and f keeps the others
-filled-kept : (f : ℕ → ℕ → ℕ) (i : ℕ) (l : List ℕ) → ((n x : ℕ) → i < n → f n x ≡ x) → filled f i l l ≡ each f l
-unfolding filled each
-filled-kept f zero l h = sym (each-keeps f l (λ n x low high. h n x low))
-filled-kept f (suc i) [] h = refl
-filled-kept f (suc i) (x ∷ l) h = ap (λ (r : List ℕ). f 1 x ∷ r) (filled-kept (λ (n : ℕ). f (suc n)) i l (λ n y low. h (suc n) y (omega arith)))
-
--- the first i entries of a buffer are written
-pub record Writing (due : ℕ) (allocations : List ℕ) (trains : List Train) (old : List ℕ) (i : ℕ) (new : List ℕ) : Type 0 where
-  pub made : Made (length old) (writes due allocations trains) old old i new
+-- the rows of the trains from index i on are left to put
+pub record Left (trains : List Train) (old : List ℕ) (i : ℕ) (new : List ℕ) : Type 0 where
   pub long : length new ≡ length old
+  pub rest : putAt (64 + 32 * i) (trainRows (drop i trains)) new ≡ putAt 64 (trainRows trains) old
 
-module _ {due : ℕ} {allocations : List ℕ} {trains : List Train} {old : List ℕ} where
-  pub write-begin : Writing due allocations trains old 0 old
-  write-begin = record { made = make-begin refl refl; long = refl }
+module _ {trains : List Train} {old : List ℕ} where
+  pub left-all : Left trains old 0 old
+  left-all = record { long = refl; rest = refl }
 
-  module _ {i : ℕ} {new : List ℕ} (w : Writing due allocations trains old i new) where
-    pub write-more : {r : ℕ} → i < length new → i < stateSize → r ≡ stateByteIn due allocations trains i → Writing due allocations trains old (i + 1) (set new i r)
-    write-more {r} below small e =
-        let k : i + 1 - 1 ≡ i = omega arith in
+  module _ {i : ℕ} {new : List ℕ} (left : Left trains old i new) where
+    pub left-fewer :
+        {row next : List ℕ} → i < length trains → row ≡ trainBytes (getD trains i off) → next ≡ putAt (64 + 32 * i) row new
+        → length next ≡ length new → Left trains old (i + 1) next
+    left-fewer {row} {next} below e put long =
+        let x = getD trains i off in
+        let first : drop i trains ≡ x ∷ drop (i + 1) trains = rw (add-one i) (drop-cons trains i off below) in
+        let place : 64 + 32 * (i + 1) ≡ 64 + 32 * i + 32 = omega arith in
         record {
-          made = make-more (w .made) 0 (omega (arith, w .long)) (rw (le-leb (i + 1) stateSize (omega arith), k) e);
-          long = length-set new i r ∙ w .long;
+          long = long ∙ left .long;
+          rest =
+              rw (put, e, place)
+              (put-next (64 + 32 * i) (trainBytes x) (trainRows (drop (i + 1) trains)) new
+              ∙ rw first at (left .rest));
         }
 
-    -- the buffer is at its end, or the state
-    pub write-full : length new ≤ i → new ≡ each (writes due allocations trains) old
-    write-full h = make-over (w .made) (omega (arith, w .long))
+    pub left-none : length trains ≤ i → new ≡ putAt 64 (trainRows trains) old
+    left-none h = sym (put-nothing (64 + 32 * i) new) ∙ rw (drop-of-length-le trains h) at (left .rest)
 
-    pub write-over : stateSize ≤ i → new ≡ each (writes due allocations trains) old
-    write-over h =
-        w .made .made
-        ∙ filled-kept (writes due allocations trains) i old (λ n x high. rw (lt-leb n stateSize (omega arith)))
-
--- a train that bytes spell, read from where it starts
-pub train-read :
-    (s : List ℕ) (t : ℕ) → let k = 32 * t + 32 in
-    _≡_ {A = Train}
-    (record { route = byteAt s k; place = byteAt s (k + 1); position = fourAt s (k + 4); speed = twoAt s (k + 8); asks = not (eqb (byteAt s (k + 2)) 0) })
-    (trainOf s t)
-unfolding trainOf
-train-read s t =
-    let e1 : 32 * t + 32 + 1 ≡ 32 * t + 33 = omega arith in
-    let e2 : 32 * t + 32 + 2 ≡ 32 * t + 34 = omega arith in
-    let e4 : 32 * t + 32 + 4 ≡ 32 * t + 36 = omega arith in
-    let e8 : 32 * t + 32 + 8 ≡ 32 * t + 40 = omega arith in
-    rw (e1, e2, e4, e8)
+-- the 64 bytes before the trains, and the trains
+pub state-put : (a : Area) (old : List ℕ) → length (a .allocations) ≡ 62 → putAt 64 (trainRows (a .trains)) (putAt 0 (headBytes (a .due) (a .allocations)) old) ≡ stateInto a old
+unfolding stateInto stateBytes
+state-put a old long =
+    let e : 0 + length (headBytes (a .due) (a .allocations)) ≡ 64 = simp (length-append, long) in
+    rw e at (put-next 0 (headBytes (a .due) (a .allocations)) (trainRows (a .trains)) old)
 
 -- the tables that a file's bytes spell
 module _ (file : List ℕ) where

@@ -1,49 +1,51 @@
 -- The running state of an area as bytes (docs/FORMATS.md): step due, allocations, trains. Bytes are counted from 0.
-use Prim.Native.Nat.{ℕ, _+_, _-_, _*_, _/_, _%_}
+use Prim.Native.Nat.{ℕ, _+_, _-_, _*_}
 use mathlib.Core.Bool.{not}
-use mathlib.Core.List.{List}
-use lib.Dec.{leb, ltb, eqb}
-use lib.ListN.{length}
-use Rattle.lists.specs.Words.{if_then_else_, at, each, tabulate}
-use Rattle.file.specs.Bytes.{byteAt, twoAt, fourAt}
-use Rattle.file.specs.Blocks.{fileSize}
+use mathlib.Core.List.{List, [], _∷_, _++_}
+use lib.Dec.{eqb}
+use lib.ListN.{length, replicate}
+use Rattle.lists.specs.Words.{if_then_else_, tabulate}
+use Rattle.file.specs.Bytes.{byteAt, twoAt, fourAt, two, four, putAt}
+use Rattle.file.specs.Layout.{fileSize}
 use Rattle.tables.specs.declared.Tables.{Tables}
 use Rattle.tables.specs.Tables.{blankTables}
 use Rattle.decoding.specs.Decoding.{decoded}
 use Rattle.trains.specs.declared.Train.{Train}
-use Rattle.trains.specs.Train.{mostTrains, trainAt}
+use Rattle.trains.specs.Train.{mostTrains}
 use Rattle.area.specs.declared.Area.{Area}
 
--- 64 bytes, and 32 for each train
-abbrev pub stateSize : ℕ
-stateSize = 832
+-- a train's 32 bytes: route, place, asks (0 or 1), a zero, position, speed, zeros. Where each stands, and all of them as a row
+pub record TrainPlaces : Type 0 where
+  pub route : ℕ
+  pub place : ℕ
+  pub asks : ℕ
+  pub position : ℕ
+  pub speed : ℕ
 
--- byte j of a train's 32: route, place, asking (0 or 1), a zero, position (4 bytes), speed (2 bytes), zeros
-unfoldable pub trainByte : Train → ℕ → ℕ
-trainByte x j =
-    if eqb j 0 then x .route
-    else (if eqb j 1 then x .place
-    else (if eqb j 2 then (if x .asks then 1 else 0)
-    else (if eqb j 4 then x .position % 256
-    else (if eqb j 5 then x .position / 256 % 256
-    else (if eqb j 6 then x .position / 65536 % 256
-    else (if eqb j 7 then x .position / 16777216
-    else (if eqb j 8 then x .speed % 256
-    else (if eqb j 9 then x .speed / 256 else 0))))))))
+abbrev pub inTrain : TrainPlaces
+inTrain = record { route = 0; place = 1; asks = 2; position = 4; speed = 8 }
 
--- byte i of the state: the step due, the allocation of segment i, a zero, and from byte 64 on the trains
-unfoldable pub stateByteIn : (due : ℕ) (allocations : List ℕ) (trains : List Train) → ℕ → ℕ
-stateByteIn due allocations trains i =
-    if eqb i 0
-    then due
-    else (if ltb i 64 then at allocations i else trainByte (trainAt trains ((i - 64) / 32 + 1)) ((i - 64) % 32))
+abbrev pub trainBytes : Train → List ℕ
+trainBytes x = x .route ∷ x .place ∷ (if x .asks then 1 else 0) ∷ 0 ∷ four (x .position) ++ two (x .speed) ++ replicate 22 0
 
-abbrev pub stateByte : Area → ℕ → ℕ
-stateByte a i = stateByteIn (a .due) (a .allocations) (a .trains) i
+-- the trains' rows one after the other; where that of train t starts in the state
+abbrev pub trainRows : List Train → List ℕ
+trainRows [] = []
+trainRows (x ∷ trains) = trainBytes x ++ trainRows trains
+
+abbrev pub trainStart : ℕ → ℕ
+trainStart t = 64 + 32 * (t - 1)
+
+-- the 64 bytes before the trains: the step due, the allocations of the 62 segments, a zero
+abbrev pub headBytes : (due : ℕ) (allocations : List ℕ) → List ℕ
+headBytes due allocations = due ∷ allocations ++ 0 ∷ []
+
+unfoldable pub stateBytes : Area → List ℕ
+stateBytes a = headBytes (a .due) (a .allocations) ++ trainRows (a .trains)
 
 -- a buffer into which the state is written, as far as it has room; what it has beyond is as it was
 unfoldable pub stateInto : Area → List ℕ → List ℕ
-stateInto a old = each (λ (n x : ℕ). if leb n stateSize then stateByte a (n - 1) else x) old
+stateInto a old = putAt 0 (stateBytes a) old
 
 -- ---- any record at all: the tables that a file's bytes spell, with no rule tested, and the state that some bytes spell
 unfoldable pub tablesOf : List ℕ → Tables
@@ -52,11 +54,11 @@ tablesOf file = if eqb (length file) fileSize then decoded file else blankTables
 unfoldable pub trainOf : List ℕ → ℕ → Train
 trainOf state t =
     record {
-      route = byteAt state (32 * t + 32);
-      place = byteAt state (32 * t + 33);
-      position = fourAt state (32 * t + 36);
-      speed = twoAt state (32 * t + 40);
-      asks = not (eqb (byteAt state (32 * t + 34)) 0);
+      route = byteAt state (trainStart t + inTrain .route);
+      place = byteAt state (trainStart t + inTrain .place);
+      position = fourAt state (trainStart t + inTrain .position);
+      speed = twoAt state (trainStart t + inTrain .speed);
+      asks = not (eqb (byteAt state (trainStart t + inTrain .asks)) 0);
     }
 
 unfoldable pub recordOf : (file state : List ℕ) → Area

@@ -1,65 +1,63 @@
 // The running state of an area as bytes, into a lent buffer and from one. The layout is in docs/FORMATS.md.
 ghost use mathlib.Core.Path.{_≡_};
+ghost use Prim.Native.Nat.{_+_};
 ghost use Rattle.lists.specs.Words.{tabulate};
-ghost use Rattle.file.specs.Bytes.{byteAt};
+ghost use Rattle.file.specs.Bytes.{byteAt, putAt};
 ghost use Rattle.trains.specs.Train.{mostTrains};
-ghost use Rattle.state.specs.State.{trainByte, stateByteIn, stateInto, tablesOf, trainOf, recordOf};
+ghost use Rattle.state.specs.State.{trainBytes, trainRows, headBytes, stateInto, tablesOf, trainOf, recordOf};
 use area::Area;
 use tables::Tables;
 use trains::Train;
 
-const STATE_SIZE: usize = 832;
-
-// One byte of a train's 32.
-fn train_byte(x: Train, j: u8) -> u8
-    ensures { λ r. ⌜ r ≡ trainByte x j ⌝ }
+fn train_bytes(x: Train) -> [u8; 32]
+    ensures { λ r. ⌜ r ≡ trainBytes x ⌝ }
 {
-    match j {
-        0 => x.route,
-        1 => x.place,
-        2 => x.asks as u8,
-        4 => (x.position % 256) as u8,
-        5 => (x.position / 256 % 256) as u8,
-        6 => (x.position / 65536 % 256) as u8,
-        7 => (x.position / 16777216) as u8,
-        8 => (x.speed % 256) as u8,
-        9 => (x.speed / 256) as u8,
-        _ => 0,
-    }
+    let p = file::four(x.position);
+    let v = file::two(x.speed);
+    let held = [
+        x.route,
+        x.place,
+        x.asks as u8,
+        0,
+        p[0],
+        p[1],
+        p[2],
+        p[3],
+        v[0],
+        v[1],
+    ];
+    let mut row = [0u8; 32];
+    file::put(&mut row, 0, &held);
+    row
 }
 
-fn state_byte(due: u8, allocations: &[u8; 62], trains: [Train; 24], i: u16) -> u8
-    ensures { λ r. ⌜ r ≡ stateByteIn due (now (allocations .entry)) trains i ⌝ }
+fn head_bytes(due: u8, allocations: [u8; 62]) -> [u8; 64]
+    ensures { λ r. ⌜ r ≡ headBytes due allocations ⌝ }
 {
-    if i == 0 {
-        return due;
+    let mut head = [0u8; 64];
+    head[0] = due;
+    file::put(&mut head, 1, &allocations);
+    head
+}
+
+fn write_trains(trains: [Train; 24], buffer: &mut [u8])
+    ensures { λ _. ⌜ now (buffer .exit) ≡ putAt 64 (trainRows trains) (now (buffer .entry)) ⌝ }
+{
+    for i in 0..24 {
+        let row = train_bytes(trains[i]);
+        file::put(buffer, (64 + 32 * i) as u16, &row);
     }
-    if i < 64 {
-        return lists::entry_u8(allocations, i as usize);
-    }
-    if 832 <= i {
-        return 0;
-    }
-    let k = i - 64;
-    let x = trains::train_at(trains, (k / 32 + 1) as u8);
-    train_byte(x, (k % 32) as u8)
 }
 
 // Writes the state into a buffer, as far as that has room.
 pub fn write_state(area: Area, buffer: &mut [u8])
     ensures { λ _. ⌜ now (buffer .exit) ≡ stateInto area (now (buffer .entry)) ⌝ }
 {
-    let due = area.due;
     let allocations = area.allocations;
     let trains = area.trains;
-    let mut i: usize = 0;
-    while i < buffer.len() {
-        if STATE_SIZE <= i {
-            return;
-        }
-        buffer[i] = state_byte(due, &allocations, trains, i as u16);
-        i += 1;
-    }
+    let head = head_bytes(area.due, allocations);
+    file::put(buffer, 0, &head);
+    write_trains(trains, buffer);
 }
 
 // ---- any record at all, from bytes
@@ -82,17 +80,18 @@ fn allocations_of(state: &[u8]) -> [u8; 62]
     new
 }
 
-fn train_of(state: &[u8], t: u8) -> Train
-    ensures { λ r. ⌜ r ≡ trainOf (now (state .entry)) t ⌝ }
+// Train i + 1.
+fn train_of(state: &[u8], i: u8) -> Train
+    ensures { λ r. ⌜ r ≡ trainOf (now (state .entry)) (i + 1) ⌝ }
 {
-    let at = 32 * (t as u16) + 32;
-    let i = at as usize;
+    let start = 64 + 32 * (i as u16);
+    let at = start as usize;
     Train {
-        route: file::byte(state, i),
-        place: file::byte(state, i + 1),
-        position: file::four_at(state, at + 4),
-        speed: file::two_at(state, at + 8),
-        asks: file::byte(state, i + 2) != 0,
+        route: file::byte(state, at),
+        place: file::byte(state, at + 1),
+        position: file::four_at(state, start + 4),
+        speed: file::two_at(state, start as u32 + 8),
+        asks: file::byte(state, at + 2) != 0,
     }
 }
 
@@ -102,7 +101,7 @@ fn trains_of(state: &[u8]) -> [Train; 24]
     let off = trains::train_off();
     let mut new = [off; 24];
     for i in 0..24 {
-        new[i] = train_of(state, (i + 1) as u8);
+        new[i] = train_of(state, i as u8);
     }
     new
 }

@@ -13,12 +13,13 @@ use Rattle.lists.specs.Words.{at, tabulate}
 use Rattle.lists.proofs.Numbered.{nth-tabulate, nth-index, length-tabulate}
 use Rattle.lists.proofs.Cases.{by-test, not-both, is-false, and-iff, cases, lt-or-le}
 use Rattle.file.specs.Bytes.{byteAt}
-use Rattle.file.specs.Blocks.{blockSize, fileSize, block}
+use Rattle.file.specs.Layout.{blockSize, fileSize}
+use Rattle.file.specs.Blocks.{block}
 use Rattle.tables.specs.Bounds.{mostRoutes, longestRoute}
 use Rattle.tables.specs.Tables.{countOf, segmentAt}
 use Rattle.decoding.specs.Decoding.{routeByteIn, decoded}
 use Rattle.reading.specs.Verdict.{verdict, accepted, readingOf}
-use Rattle.view.specs.View.{routeStart, shown, viewStart, viewCount, viewed}
+use Rattle.view.specs.View.{startInFile, shown, viewStart, viewCount, viewed}
 use Rattle.reading.proofs.Accepted.{accepted-iff, number-zero, file-consistent}
 
 -- a byte of a block is a byte of the file
@@ -27,11 +28,11 @@ unfolding block
 byte-in-block file k i h = getD-take blockSize (drop (blockSize * k) file) i 0 h ∙ getD-drop (blockSize * k) file i 0
 
 -- byte p of route record r, the count at 0, is byte p after the record's start in the file
-route-byte : (file : List ℕ) (r p : ℕ) → 1 ≤ r → r ≤ mostRoutes → p < 32 → at (decoded file .routebytes) (32 * r - 31 + p) ≡ byteAt file (routeStart r + p)
+route-byte : (file : List ℕ) (r p : ℕ) → 1 ≤ r → r ≤ mostRoutes → p < 32 → at (decoded file .routebytes) (32 * r - 31 + p) ≡ byteAt file (startInFile r + p)
 unfolding decoded routeByteIn
 route-byte file r p low high small =
     let k = 32 * r - 31 + p in
-    let e : 512 * (3 + (k - 1) / 480) + (k - 1) % 480 ≡ routeStart r + p = omega arith in
+    let e : 512 * (3 + (k - 1) / 480) + (k - 1) % 480 ≡ startInFile r + p = omega arith in
     nth-tabulate 0 960 (routeByteIn file) k (omega arith) (omega arith)
     ∙ byte-in-block file (3 + (k - 1) / 480) ((k - 1) % 480) (omega arith)
     ∙ ap (λ (i : ℕ). byteAt file i) e
@@ -43,9 +44,9 @@ pub record Shown (file : List ℕ) (r : ℕ) : Type 0 where
   pub low : 1 ≤ r
   pub high : r ≤ decoded file .routes
   pub most : r ≤ mostRoutes
-  pub some : 1 ≤ byteAt file (routeStart r)
-  pub short : byteAt file (routeStart r) ≤ longestRoute
-  pub counts : countOf (decoded file .routebytes) r ≡ byteAt file (routeStart r)
+  pub some : 1 ≤ byteAt file (startInFile r)
+  pub short : byteAt file (startInFile r) ≤ longestRoute
+  pub counts : countOf (decoded file .routebytes) r ≡ byteAt file (startInFile r)
 
 pub shown-facts : (file : List ℕ) (r : ℕ) → shown file r ≡ true → Shown file r
 unfolding shown countOf
@@ -56,8 +57,8 @@ shown-facts file r h =
     let c = file-consistent file (f .0 .0) in
     let most : r ≤ mostRoutes = omega (arith, c .routes .1) in
     let e : 32 * r - 31 + 0 ≡ 32 * r - 31 = omega arith in
-    let g : routeStart r + 0 ≡ routeStart r = omega arith in
-    let counts : at (decoded file .routebytes) (32 * r - 31) ≡ byteAt file (routeStart r) = rw (e, g) at (route-byte file r 0 low most (omega arith)) in
+    let g : startInFile r + 0 ≡ startInFile r = omega arith in
+    let counts : at (decoded file .routebytes) (32 * r - 31) ≡ byteAt file (startInFile r) = rw (e, g) at (route-byte file r 0 low most (omega arith)) in
     record {
       isAccepted = f .0 .0;
       size = accepted-iff file .0 (f .0 .0) .size;
@@ -70,7 +71,7 @@ shown-facts file r h =
     }
 
 module _ (file : List ℕ) (r : ℕ) where
-  pub view-on : shown file r ≡ true → (viewStart file r ≡ routeStart r + 1) × (viewCount file r ≡ byteAt file (routeStart r))
+  pub view-on : shown file r ≡ true → (viewStart file r ≡ startInFile r + 1) × (viewCount file r ≡ byteAt file (startInFile r))
   unfolding viewStart viewCount
   view-on h = rw h (refl, refl)
 
@@ -85,13 +86,13 @@ module _ (file : List ℕ) (r : ℕ) where
       let s = shown-facts file r h in
       let v = view-on h in
       let n = countOf (decoded file .routebytes) r in
-      let part = take n (drop (routeStart r + 1) file) in
+      let part = take n (drop (startInFile r + 1) file) in
       let long : length part ≡ n = simp (length-take, length-drop) (omega (arith, s .size, s .counts, s .short, s .most, s .low)) in
       rw (v .0, v .1, ← (s .counts))
       (ext-getD 0 part (tabulate n (segmentAt (decoded file .routebytes) r)) (long ∙ sym (length-tabulate n (segmentAt (decoded file .routebytes) r)))
       (λ i below.
-      let e : routeStart r + 1 + i ≡ routeStart r + (i + 1) = omega arith in
-      getD-take n (drop (routeStart r + 1) file) i 0 (omega arith) ∙ getD-drop (routeStart r + 1) file i 0 ∙ ap (λ (k : ℕ). byteAt file k) e
+      let e : startInFile r + 1 + i ≡ startInFile r + (i + 1) = omega arith in
+      getD-take n (drop (startInFile r + 1) file) i 0 (omega arith) ∙ getD-drop (startInFile r + 1) file i 0 ∙ ap (λ (k : ℕ). byteAt file k) e
       ∙ sym (route-byte file r (i + 1) (s .low) (s .most) (omega (arith, s .counts, s .short)))
       ∙ sym (nth-tabulate 0 n (segmentAt (decoded file .routebytes) r) (i + 1) (omega arith) (omega arith))
       ∙ nth-index 0 (tabulate n (segmentAt (decoded file .routebytes) r)) i))

@@ -2,7 +2,7 @@
 ghost use mathlib.Core.Path.{_≡_};
 ghost use Prim.Native.Nat.{_<_, _+_};
 ghost use Rattle.file.specs.Bytes.{PartAt};
-ghost use Rattle.view.specs.View.{routeStart, shown, viewStart, viewCount};
+ghost use Rattle.view.specs.View.{startInFile, shown, viewStart, viewCount};
 
 // The place of a route view in its file.
 pub struct Part {
@@ -21,7 +21,7 @@ fn is_shown(file: &[u8], route: u16) -> bool
 // Where route record i + 1 starts in the file.
 fn route_start(i: usize) -> usize
     requires { ⌜ i < 30 ⌝ }
-    ensures { λ r. ⌜ r ≡ routeStart (i + 1) ⌝ }
+    ensures { λ r. ⌜ r ≡ startInFile (i + 1) ⌝ }
 {
     512 * (3 + i / 15) + 32 * (i % 15)
 }

@@ -1,4 +1,6 @@
+-- An array of the records' lengths, computed by number.
 use Prim.Native.Nat.{_-_}
+use native.Mathlib.Nat.{add-zero}
 use native.Mathlib.Omega.{arith}
 use borrow.Author.Needs.{needs}
 use Rattle.decoding.specs.Decoding.{lengthIn}
@@ -40,7 +42,7 @@ loop-again : tie.Need-loop-again Inv-loop μ-loop
 unfolding lengthIn
 loop-again c =
     table-more (c .before .before .before .before .loop .inv) (c .before .before .before .loop-test .taken)
-    (simp (c .four-at .ensures, c .before .before .segment-block .ensures, c .before .segment-start .ensures))
+    (simp (c .four-at .ensures, c .before .before .segment-block .ensures, c .before .segment-start .ensures, add-zero))
 
 returns : tie.Need-returns Inv-loop μ-loop
 returns c = table-over (c .before .loop .inv) (c .loop-test .left)

@@ -1,3 +1,4 @@
+-- An array of the records' limits, computed by number.
 use Prim.Native.Nat.{_-_}
 use native.Mathlib.Omega.{arith}
 use borrow.Author.Needs.{needs}
@@ -20,6 +21,9 @@ segment-block-requires c κs = search needs
 
 segment-start-requires : tie.Need-segment-start-requires Inv-loop μ-loop
 segment-start-requires c κs = search needs
+
+cast-two-at : tie.Need-cast-two-at Inv-loop μ-loop
+cast-two-at c = omega arith
 
 add-two-at : tie.Need-add-two-at Inv-loop μ-loop
 add-two-at c = omega arith
@@ -57,6 +61,7 @@ limits-of-spec =
     loop-holds
     segment-block-requires
     segment-start-requires
+    cast-two-at
     add-two-at
     two-at-requires
     mul-limits

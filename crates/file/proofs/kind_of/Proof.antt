@@ -1,5 +1,5 @@
 use borrow.Author.Tests.{eq-eqb, ne-eqb, lt-ltb, le-ltb}
-use Rattle.file.specs.Blocks.{kindOf}
+use Rattle.file.specs.Layout.{kindOf}
 use Rattle.file.proofs.kind_of.Statement.{statement}
 use Rattle.file.proofs.kind_of.Tie as tie
 

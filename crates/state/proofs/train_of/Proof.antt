@@ -1,16 +1,21 @@
+-- Each field is read at its place after the train's start.
 use borrow.Author.Needs.{needs}
-use Rattle.state.proofs.Laws.{train-read}
+use Prim.Native.Nat.{_+_, _-_}
+use mathlib.Core.Path.{_≡_}
+use native.Mathlib.Nat.{add-zero}
+use native.Mathlib.Omega.{arith}
+use Rattle.state.specs.State.{trainOf}
 use Rattle.state.proofs.train_of.Statement.{statement}
 use Rattle.state.proofs.train_of.Tie as tie
 
-mul-at : tie.Need-mul-at
-mul-at c = search needs
+mul-start : tie.Need-mul-start
+mul-start c = search needs
 
-add-at : tie.Need-add-at
-add-at c = search needs
+add-start : tie.Need-add-start
+add-start c = search needs
 
-cast-i : tie.Need-cast-i
-cast-i c = search needs
+cast-at : tie.Need-cast-at
+cast-at c = search needs
 
 byte-requires : tie.Need-byte-requires
 byte-requires c κs = search needs
@@ -27,6 +32,9 @@ add-four-at c = search needs
 four-at-requires : tie.Need-four-at-requires
 four-at-requires c κs = search needs
 
+cast-two-at : tie.Need-cast-two-at
+cast-two-at c = search needs
+
 add-two-at : tie.Need-add-two-at
 add-two-at c = search needs
 
@@ -40,26 +48,14 @@ byte-requires-3 : tie.Need-byte-requires-3
 byte-requires-3 c κs = search needs
 
 returns : tie.Need-returns
+unfolding trainOf
 returns c =
     let h = c .before in
     let w = h .before in
     let p = w .before in
-    simp (p .before .byte .ensures, p .byte2 .ensures, w .four-at .ensures, h .two-at .ensures, c .byte3 .ensures) (train-read _ _)
+    let i = p .before .before .before .args .i in
+    let e : i + 1 - 1 ≡ i = omega arith in
+    rw e (simp (p .before .byte .ensures, p .byte2 .ensures, w .four-at .ensures, h .two-at .ensures, c .byte3 .ensures, add-zero))
 
 pub train-of-spec : {M : Type 1} → statement M
-train-of-spec =
-    tie.close
-    (tie.spec
-    mul-at
-    add-at
-    cast-i
-    byte-requires
-    add-byte
-    byte-requires-2
-    add-four-at
-    four-at-requires
-    add-two-at
-    two-at-requires
-    add-byte-2
-    byte-requires-3
-    returns)
+train-of-spec = tie.close (tie.spec mul-start add-start cast-at byte-requires add-byte byte-requires-2 add-four-at four-at-requires cast-two-at add-two-at two-at-requires add-byte-2 byte-requires-3 returns)

@@ -1,3 +1,4 @@
+-- An array of the trains that bytes spell, made by number.
 use Prim.Native.Nat.{ℕ, _-_}
 use mathlib.Core.Path.{_∙_}
 use native.Mathlib.Omega.{arith}
@@ -22,9 +23,6 @@ train-off-requires c κs = search needs
 
 loop-holds : tie.Need-loop-holds Inv-loop μ-loop
 loop-holds c = let n = length-replicate 24 (c .train-off .result) in make-begin n n
-
-add-train-of : tie.Need-add-train-of Inv-loop μ-loop
-add-train-of c = omega arith
 
 cast-train-of : tie.Need-cast-train-of Inv-loop μ-loop
 cast-train-of c = omega arith
@@ -60,7 +58,6 @@ trains-of-spec =
     μ-loop
     train-off-requires
     loop-holds
-    add-train-of
     cast-train-of
     train-of-requires
     mul-new

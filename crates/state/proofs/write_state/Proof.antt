@@ -1,69 +1,42 @@
-use Prim.Native.Nat.{_-_}
-use native.Mathlib.Omega.{arith}
+use mathlib.Core.Path.{_≡_, _∙_}
 use lib.ListN.{length}
 use borrow.Author.Needs.{needs}
-use Rattle.state.specs.State.{stateInto}
-use Rattle.state.proofs.Laws.{Writing, write-begin, write-more, write-full, write-over}
+use Rattle.state.proofs.Laws.{state-put}
 use Rattle.state.proofs.write_state.Statement.{statement}
 use Rattle.state.proofs.write_state.Tie as tie
 
-abbrev Inv-loop : tie.InvT-loop
-Inv-loop buffer₀ due allocations trains i₀ buffer i = Writing due allocations trains buffer₀ i buffer
+head-bytes-requires : tie.Need-head-bytes-requires
+head-bytes-requires c κs = search needs
 
-abbrev μ-loop : tie.MeasureT-loop
-μ-loop buffer₀ due allocations trains i₀ buffer i = length buffer₀ - i
+slice-aggregate-put : tie.Need-slice-aggregate-put
+slice-aggregate-put c = search needs
 
-loop-holds : tie.Need-loop-holds Inv-loop μ-loop
-loop-holds c = write-begin
+put-requires : tie.Need-put-requires
+put-requires c κs = search needs
 
-same-length : tie.Need-same-length Inv-loop μ-loop
-same-length c = c .before .before .loop .inv .long
+write-trains-requires : tie.Need-write-trains-requires
+write-trains-requires c κs = search needs
 
-returns : tie.Need-returns Inv-loop μ-loop
-unfolding stateInto
-returns c = write-over (c .before .before .loop .inv) (c .if1 .taken)
+same-length : tie.Need-same-length
+same-length c = search needs
 
-cast-state-byte : tie.Need-cast-state-byte Inv-loop μ-loop
-cast-state-byte c = omega arith
+long : (c : tie.After-head-bytes) → length (c .before .before .before .before .args .area .allocations) ≡ 62
+long c = search needs
 
-state-byte-requires : tie.Need-state-byte-requires Inv-loop μ-loop
-state-byte-requires c κs = search needs
-
-slice-write-buffer : tie.Need-slice-write-buffer Inv-loop μ-loop
-slice-write-buffer c = omega arith
-
-add-i : tie.Need-add-i Inv-loop μ-loop
-add-i c = omega arith
-
-loop-less : tie.Need-loop-less Inv-loop μ-loop
-loop-less c = omega (arith, c .before .before .before .before .loop .inv .long)
-
-loop-again : tie.Need-loop-again Inv-loop μ-loop
-loop-again c =
-    let i = c .before .before in
-    write-more (i .before .before .loop .inv) (i .before .loop-test .taken) (i .if1 .left) (c .state-byte .ensures)
-
-same-length-2 : tie.Need-same-length-2 Inv-loop μ-loop
-same-length-2 c = c .before .loop .inv .long
-
-returns-2 : tie.Need-returns-2 Inv-loop μ-loop
-unfolding stateInto
-returns-2 c = write-full (c .before .loop .inv) (c .loop-test .left)
+returns : tie.Need-returns
+returns c =
+    let rows = c .before .before in
+    let put = rows .before .before .before .before in
+    let head = put .before .before .before in
+    rows .write-trains .ensures ∙ rw (put .put .ensures, head .head-bytes .ensures) (state-put _ _ (long head))
 
 pub write-state-spec : {M : Type 1} → statement M
 write-state-spec =
     tie.close
     (tie.spec
-    Inv-loop
-    μ-loop
-    loop-holds
+    head-bytes-requires
+    slice-aggregate-put
+    put-requires
+    write-trains-requires
     same-length
-    returns
-    cast-state-byte
-    state-byte-requires
-    slice-write-buffer
-    add-i
-    loop-less
-    loop-again
-    same-length-2
-    returns-2)
+    returns)

@@ -5,7 +5,7 @@ use native.Mathlib.Omega.{arith}
 use borrow.Author.Needs.{needs}
 use denote.Ref.{now}
 use Rattle.lists.proofs.Cases.{test-fails, test-holds}
-use Rattle.view.specs.View.{routeStart, shown}
+use Rattle.view.specs.View.{startInFile, shown}
 use Rattle.view.proofs.View.{shown-facts, view-on, view-off}
 use Rattle.view.proofs.view_of.Statement.{statement}
 use Rattle.view.proofs.view_of.Tie as tie
@@ -46,7 +46,7 @@ returns-2 c =
     let s = shown-facts (now (a .file)) (a .route) (on i) in
     let v = view-on (now (a .file)) (a .route) (on i) in
     let e : a .route - 1 + 1 ≡ a .route = omega (arith, s .low) in
-    let starts : c .before .route-start .result ≡ routeStart (a .route) = rw e at (c .before .route-start .ensures) in
+    let starts : c .before .route-start .result ≡ startInFile (a .route) = rw e at (c .before .route-start .ensures) in
     (sym (rw starts (v .0)), rw starts at (c .byte .ensures) ∙ sym (v .1))
 
 pub view-of-spec : {M : Type 1} → statement M

@@ -1,0 +1,49 @@
+-- The places and the rows of bytes agree: each field of a row is read back at its place.
+use Prim.Native.Nat.{ℕ, _+_, _-_, _≤_}
+use mathlib.Core.Path.{_≡_, refl}
+use mathlib.Core.List.{List, _++_}
+use native.Mathlib.Omega.{arith}
+use lib.ListN.{length, replicate, length-append, length-replicate}
+use lib.Seq.{getD-append-add}
+use Rattle.file.specs.Bytes.{byteAt, twoAt, fourAt, two, four}
+use Rattle.file.specs.Layout.{inTail, kindOf, tailBytes, blockBytes, version, inHeader, headerBytes, inSegment, segmentBytes}
+
+two-back : (n : ℕ) → twoAt (two n) 0 ≡ n
+two-back n = omega arith
+
+four-back : (n : ℕ) → fourAt (four n) 0 ≡ n
+four-back n = omega arith
+
+pub header-back :
+    (segments routes gmax b d : ℕ) (rest : List ℕ) → let s = headerBytes segments routes gmax b d ++ rest in
+    (byteAt s (inHeader .version) ≡ version) × (byteAt s (inHeader .segments) ≡ segments) × (byteAt s (inHeader .routes) ≡ routes)
+    × (byteAt s (inHeader .zero) ≡ 0)
+    × (twoAt s (inHeader .gmax) ≡ gmax) × (twoAt s (inHeader .braking) ≡ b) × (fourAt s (inHeader .margin) ≡ d)
+    × (length (headerBytes segments routes gmax b d) ≡ inHeader .zeros)
+header-back segments routes gmax b d rest = (refl, refl, refl, refl, two-back gmax, two-back b, four-back d, refl)
+
+pub segment-back :
+    (length′ limit next1 next2 previous1 previous2 flags : ℕ) (rest : List ℕ)
+    → let r = segmentBytes length′ limit next1 next2 previous1 previous2 flags in
+    let s = r ++ rest in
+    (fourAt s (inSegment .length) ≡ length′) × (twoAt s (inSegment .limit) ≡ limit)
+    × (byteAt s (inSegment .next) ≡ next1) × (byteAt s (inSegment .next + 1) ≡ next2)
+    × (byteAt s (inSegment .previous) ≡ previous1) × (byteAt s (inSegment .previous + 1) ≡ previous2)
+    × (byteAt s (inSegment .flags) ≡ flags) × (length r ≡ inSegment .zerosLast + 1)
+segment-back length′ limit next1 next2 previous1 previous2 flags rest =
+    (four-back length′, two-back limit, refl, refl, refl, refl, refl, refl)
+
+-- a byte of the tail, by its place in the block
+module _ (number : ℕ) (held : List ℕ) (first second : ℕ) (fits : length held ≤ inTail .kind) where
+  in-tail : (i : ℕ) → byteAt (blockBytes number held first second) (inTail .kind + i) ≡ byteAt (tailBytes number first second) i
+  in-tail i =
+      let pad : List ℕ = replicate (inTail .kind - length held) 0 in
+      let tail = tailBytes number first second in
+      let long : length (held ++ pad) ≡ inTail .kind = simp (length-append, length-replicate) (omega arith) in
+      rw long at (getD-append-add (held ++ pad) tail i 0)
+
+  pub tail-back :
+      let s = blockBytes number held first second in
+      (byteAt s (inTail .kind) ≡ kindOf number) × (byteAt s (inTail .number) ≡ number)
+      × (byteAt s (inTail .check) ≡ first) × (byteAt s (inTail .check + 1) ≡ second)
+  tail-back = (in-tail 0, in-tail 1, in-tail 14, in-tail 15)

@@ -1,0 +1,109 @@
+-- Where everything stands in an area file (document 01, "The area file"), each number once: the places, for reading, and what a
+-- block, a header and a record are as rows of bytes, for writing. Bytes and blocks are counted from 0, records from 1.
+use Prim.Native.Nat.{ℕ, _+_, _-_, _*_, _/_, _%_}
+use mathlib.Core.List.{List, [], _∷_, _++_}
+use lib.ListN.{length, replicate}
+use lib.Dec.{eqb, ltb}
+use Rattle.lists.specs.Words.{if_then_else_}
+use Rattle.file.specs.Bytes.{two, four}
+
+-- five blocks of 512 bytes
+abbrev pub blocks : ℕ
+blocks = 5
+
+abbrev pub blockSize : ℕ
+blockSize = 512
+
+abbrev pub fileSize : ℕ
+fileSize = blocks * blockSize
+
+-- the block of the header, the first of the segments' two, the first of the routes' two
+abbrev pub headerBlock : ℕ
+headerBlock = 0
+
+abbrev pub segmentBlocks : ℕ
+segmentBlocks = 1
+
+abbrev pub routeBlocks : ℕ
+routeBlocks = 3
+
+-- the tail of each block: kind, block number, zeros (a first and a last byte), the check; `body` is the last byte before it
+pub record TailPlaces : Type 0 where
+  pub body : ℕ
+  pub kind : ℕ
+  pub number : ℕ
+  pub zeros : ℕ
+  pub zerosLast : ℕ
+  pub check : ℕ
+
+abbrev pub inTail : TailPlaces
+inTail = record { body = 495; kind = 496; number = 497; zeros = 498; zerosLast = 509; check = 510 }
+
+-- kinds: 1 header, 2 and 2 segments, 3 and 3 routes
+unfoldable pub kindOf : ℕ → ℕ
+kindOf k = if eqb k headerBlock then 1 else (if ltb k routeBlocks then 2 else 3)
+
+abbrev pub tailBytes : (number first second : ℕ) → List ℕ
+tailBytes number first second = kindOf number ∷ number ∷ replicate 12 0 ++ first ∷ second ∷ []
+
+-- a block: what it holds, zeros up to the tail, the tail with the two sums of its check
+abbrev pub blockBytes : (number : ℕ) (held : List ℕ) (first second : ℕ) → List ℕ
+blockBytes number held first second = held ++ replicate (inTail .kind - length held) 0 ++ tailBytes number first second
+
+-- the header: version, segments, routes, a zero, `gmax`, `b`, `d`, zeros up to the tail
+pub record HeaderPlaces : Type 0 where
+  pub version : ℕ
+  pub segments : ℕ
+  pub routes : ℕ
+  pub zero : ℕ
+  pub gmax : ℕ
+  pub braking : ℕ
+  pub margin : ℕ
+  pub zeros : ℕ
+
+abbrev pub inHeader : HeaderPlaces
+inHeader = record { version = 0; segments = 1; routes = 2; zero = 3; gmax = 4; braking = 6; margin = 8; zeros = 12 }
+
+abbrev pub version : ℕ
+version = 1
+
+abbrev pub headerBytes : (segments routes gmax b d : ℕ) → List ℕ
+headerBytes segments routes gmax b d = version ∷ segments ∷ routes ∷ 0 ∷ two gmax ++ two b ++ four d
+
+-- segment records, 16 bytes, 31 a block: the block of record s, and where it starts there
+abbrev pub segmentBlockOf : ℕ → ℕ
+segmentBlockOf s = segmentBlocks + (s - 1) / 31
+
+abbrev pub segmentStart : ℕ → ℕ
+segmentStart s = 16 * ((s - 1) % 31)
+
+-- a segment record: length, limit, two next links, two previous links, flags, five zeros
+pub record SegmentPlaces : Type 0 where
+  pub length : ℕ
+  pub limit : ℕ
+  pub next : ℕ
+  pub previous : ℕ
+  pub flags : ℕ
+  pub zeros : ℕ
+  pub zerosLast : ℕ
+
+abbrev pub inSegment : SegmentPlaces
+inSegment = record { length = 0; limit = 4; next = 6; previous = 8; flags = 10; zeros = 11; zerosLast = 15 }
+
+abbrev pub segmentBytes : (length limit next1 next2 previous1 previous2 flags : ℕ) → List ℕ
+segmentBytes length limit next1 next2 previous1 previous2 flags =
+    four length ++ two limit ++ next1 ∷ next2 ∷ previous1 ∷ previous2 ∷ flags ∷ replicate 5 0
+
+-- route records, 32 bytes, 15 a block: the block of record r, and where it starts there; after the records, zeros up to the tail
+abbrev pub routeBlockOf : ℕ → ℕ
+routeBlockOf r = routeBlocks + (r - 1) / 15
+
+abbrev pub routeStart : ℕ → ℕ
+routeStart r = 32 * ((r - 1) % 15)
+
+abbrev pub routeZeros : ℕ
+routeZeros = 480
+
+-- a route record: the count, the segment numbers, rest zero
+abbrev pub routeBytes : (segments : List ℕ) → List ℕ
+routeBytes segments = length segments ∷ segments ++ replicate (31 - length segments) 0
