@@ -63,7 +63,7 @@ fn holds(it: bool, wrong: impl FnOnce() -> String) -> Verdict {
 
 impl Demand3 {
     /// "It starts from the record of a load answered done: no allocations, no trains, speed due."
-    /// ".. another load starts another list."
+    /// "Report and route view hand back no record and stand in no list; another load starts another list."
     pub fn new(tables: &Tables) -> Demand3 {
         Demand3 { tables: *tables, trains: [None; TRAINS as usize], record: Record::loaded(*tables) }
     }
@@ -78,11 +78,9 @@ impl Demand3 {
             self.ways_grow(call, &handed_in);
             self.grants(call, &handed_in);
         }
-        self.same_trains_on()?;
-        self.same_routes()?;
+        self.same_trains_on_and_routes()?;
         let owns = self.own_segments()?;
-        self.same_places(&owns)?;
-        self.same_positions(&owns)?;
+        self.same_places_and_positions(&owns)?;
         self.no_two_trains_on_one_segment(&owns)?;
         self.own_segments_allocated(&owns)?;
         self.speeds_within_limits(&owns)?;
@@ -124,25 +122,16 @@ impl Demand3 {
         }
     }
 
-    /// ".. the record handed back holds the same trains on, ..". A train off has neither route nor place nor position there.
-    fn same_trains_on(&self) -> Verdict {
-        for (number, (train, raw)) in (1..).zip(self.trains.iter().zip(&self.record.trains)) {
-            match train {
-                Some(_) => holds(raw.is_on(), || format!("train {number} is on, but not in the record"))?,
-                None => {
-                    let is_off = (raw.route, raw.place, raw.position) == (0, 0, 0);
-                    holds(is_off, || format!("train {number} is off, but not in the record"))?;
-                }
-            }
-        }
-        Ok(())
-    }
-
-    /// ".. the same .. routes, ..".
-    fn same_routes(&self) -> Verdict {
-        for (number, train) in self.on() {
-            let told = self.record.train(number).route;
-            holds(told == train.route, || format!("train {number} is on route {}, the record says {told}", train.route))?;
+    /// ".. the record handed back holds the same trains on, routes, ..". A train off has neither route nor place nor position there.
+    fn same_trains_on_and_routes(&self) -> Verdict {
+        for (number, (train, told)) in (1..).zip(self.trains.iter().zip(&self.record.trains)) {
+            let Some(train) = train else {
+                let is_off = (told.route, told.place, told.position) == (0, 0, 0);
+                holds(is_off, || format!("train {number} is off, but not in the record"))?;
+                continue;
+            };
+            holds(told.is_on(), || format!("train {number} is on, but not in the record"))?;
+            holds(told.route == train.route, || format!("train {number} is on route {}, the record says {}", train.route, told.route))?;
         }
         Ok(())
     }
@@ -186,20 +175,13 @@ impl Demand3 {
         self.tables.segment(own.segment).limit
     }
 
-    /// "The record's place and position are these.": the place.
-    fn same_places(&self, owns: &[Own]) -> Verdict {
-        for Own { number, place, .. } in owns {
-            let told = self.record.train(*number).place;
-            holds(usize::from(told) == *place, || format!("train {number} is at place {place}, the record says {told}"))?;
-        }
-        Ok(())
-    }
-
-    /// "The record's place and position are these.": the position.
-    fn same_positions(&self, owns: &[Own]) -> Verdict {
-        for Own { number, position, .. } in owns {
-            let told = self.record.train(*number).position;
-            holds(u64::from(told) == *position, || format!("train {number} is at position {position}, the record says {told}"))?;
+    /// "The record's place and position are these."
+    fn same_places_and_positions(&self, owns: &[Own]) -> Verdict {
+        for Own { number, place, position, .. } in owns {
+            let told = self.record.train(*number);
+            holds(usize::from(told.place) == *place, || format!("train {number} is at place {place}, the record says {}", told.place))?;
+            let same = u64::from(told.position) == *position;
+            holds(same, || format!("train {number} is at position {position}, the record says {}", told.position))?;
         }
         Ok(())
     }

@@ -31,6 +31,10 @@ fn raw(description: &Description, due: u8, trains: &[(usize, RawTrain)], allocat
     record
 }
 
+/// The last train's number as an argument, and one that no train has.
+const LAST: u16 = TRAINS as u16;
+const ABOVE: u16 = LAST + 1;
+
 /// A refusal that leaves the area as it was.
 fn refused(area: &mut Area, call: Call, number: u8) {
     let before = *area;
@@ -46,7 +50,7 @@ fn unsound_11() {
     for record in [Record::BLANK, late] {
         assert!(!sound(&record));
         assert!(Area::from_record(&record).is_none());
-        let calls = [Call::Enter { train: 0, route: 1, speed: 1 }, Call::Leave { train: 25 }, Call::Speed { wishes: &[] }];
+        let calls = [Call::Enter { train: 0, route: 1, speed: 1 }, Call::Leave { train: ABOVE }, Call::Speed { wishes: &[] }];
         for call in calls.iter().chain(&AREA_A_CYCLE) {
             assert_eq!(call_on(&record, call), (11, record));
         }
@@ -75,7 +79,7 @@ fn turn_12() {
 fn enter_13_14_16_17_18_19() {
     let enter = |train, route, speed| Call::Enter { train, route, speed };
     let mut area = Area::from_record(&raw(&longer(), SPEED, &[], &[])).unwrap();
-    for train in [0, 25, 256, 257, u16::MAX] {
+    for train in [0, ABOVE, 256, 257, u16::MAX] {
         refused(&mut area, enter(train, 0, 301), 13);
     }
     assert_eq!(area.enter(1, 1, 300), 0);
@@ -89,18 +93,18 @@ fn enter_13_14_16_17_18_19() {
     refused(&mut area, enter(2, 3, 301), 18);
     refused(&mut area, enter(2, 2, 291), 19);
     refused(&mut area, enter(2, 2, u16::MAX), 19);
-    assert_eq!(area.enter(24, 2, 290), 0);
+    assert_eq!(area.enter(LAST, 2, 290), 0);
     let record = area.record();
-    assert_eq!(record.trains[23], train(2, 1, 0, 290));
-    assert_eq!(record.allocations[..4], [1, 24, 0, 0]);
+    assert_eq!(*record.train(TRAINS), train(2, 1, 0, 290));
+    assert_eq!(record.allocations[..4], [1, TRAINS, 0, 0]);
 }
 
 #[test]
 fn leave_13_15_20() {
-    for number in [0, 25, 257] {
+    for number in [0, ABOVE, 257] {
         refused(&mut a(), Call::Leave { train: number }, 13);
     }
-    refused(&mut a(), Call::Leave { train: 24 }, 15);
+    refused(&mut a(), Call::Leave { train: LAST }, 15);
     let mut first = a();
     first.enter(1, 1, 0);
     refused(&mut first, Call::Leave { train: 1 }, 20);

@@ -211,6 +211,11 @@ fn catches_next_without_a_grant() {
     says(Run::of_train_1().doctored(|r| r.allocations[2] = 1), "its next but never granted");
     // by a grant step that is refused
     says(Run::of_train_1().told(Call::Grant, 12, |r| r.allocations[2] = 1), "its next but never granted");
+    // by a step before the grant step, which leaves it as it is
+    let mut run = Run::of_train_1();
+    for call in [Call::Request, Call::Grant] {
+        says(run.told(call, 0, |r| r.allocations[2] = 1), "its next but never granted");
+    }
     // by a grant step answered done
     assert_eq!(Run::of_train_1().told(Call::Grant, 0, |r| r.allocations[2] = 1), Ok(()));
     // to another train

@@ -8,8 +8,11 @@ use reference::*;
 const FILES: u32 = 200_000;
 const EACH_RULE: u64 = 500;
 
+/// Whether an area has an extreme.
+type Has = fn(&Description) -> bool;
+
 /// The extremes that an accepted area can have.
-const EXTREMES: [(&str, fn(&Description) -> bool); 14] = [
+const EXTREMES: [(&str, Has); 14] = [
     ("1 segment", |a| a.segments.len() == 1),
     ("62 segments", |a| a.segments.len() == SEGMENTS.into()),
     ("1 route", |a| a.routes.len() == 1),

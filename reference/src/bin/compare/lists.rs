@@ -1,6 +1,6 @@
 //! Lists of calls: each answer and the state after each call, from the core's own record and from the file with the whole list;
 //! demand 3 on what the core hands back.
-use crate::{counted, fail, loaded, same, same_state};
+use crate::{counted, fail, loaded, same, same_state, Answers};
 use reference::random::{self, Owned, Random};
 use reference::script::{items_of, script_of};
 use reference::*;
@@ -26,7 +26,7 @@ const SPEEDS: [(&str, IsAt); 4] = [
 struct Seen {
     lists: u64,
     calls: u64,
-    answers: [u64; 22],
+    answers: Answers,
     granted: u64,
     without: u64,
     contested: u64,

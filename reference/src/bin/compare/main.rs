@@ -35,6 +35,9 @@ fn same_state(seed: u64, what: impl Display, core: &[u8], second: &[u8]) {
     }
 }
 
+/// How often each answer was given, by its number, 0 to 21.
+type Answers = [u64; 22];
+
 /// Prints a count; one below the least ends the comparison.
 fn counted(what: impl Display, count: impl Into<u64>, least: u64) {
     let count = count.into();
@@ -82,7 +85,7 @@ fn braking(seed: u64) {
 }
 
 fn main() {
-    let seed = std::env::args().nth(1).map_or(1, |word| word.parse().expect("compare: the seed is a number"));
+    let seed = std::env::args().nth(1).map_or(1, |seed| seed.parse().expect("compare: the seed is a number"));
     braking(seed);
     listing(seed);
     files::compare(seed);

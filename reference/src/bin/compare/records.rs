@@ -1,5 +1,5 @@
 //! Records that no run has reached: the sound test, the report, and a call with the record that it hands back.
-use crate::{counted, fail, loaded, same, same_state};
+use crate::{counted, fail, loaded, same, same_state, Answers};
 use reference::breaks::{from_rule, PLACES};
 use reference::edges::{record_at, sound_record, EDGES};
 use reference::random::{self, Random};
@@ -36,12 +36,12 @@ struct Seen {
     sound: u32,
     kinds: [u32; KINDS.len()],
     edges: [u32; EDGES.len()],
-    answers: [u64; 22],
+    answers: Answers,
 }
 
 pub fn compare(seed: u64) {
     let mut random = Random::new(seed);
-    let mut seen = Seen { seed, records: 0, sound: 0, kinds: [0; KINDS.len()], edges: [0; EDGES.len()], answers: [0; 22] };
+    let mut seen = Seen { seed, records: 0, sound: 0, kinds: [0; KINDS.len()], edges: [0; EDGES.len()], answers: Answers::default() };
     while seen.records < RECORDS {
         let lively = !random.one_in(4);
         let area = random::area(&mut random, lively);
