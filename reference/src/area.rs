@@ -4,6 +4,7 @@
 //! place in the route and its position are worked out from the way and the summed lengths.
 
 use crate::file::{read, Refusal};
+use crate::numbers::{SEGMENTS, TRAINS, WISHES};
 use crate::record::{sound, RawTrain, Record, GRANT, POSITION, REQUEST, SPEED};
 use crate::tables::{Tables, ENTRY, EXIT};
 
@@ -46,8 +47,8 @@ fn whereabouts(tables: &Tables, train: &Train) -> Option<Whereabouts> {
 #[derive(Clone, Copy, PartialEq, Eq, Debug)]
 pub struct Area {
     tables: Tables,
-    allocations: [u8; 62],
-    trains: [Option<Train>; 24],
+    allocations: [u8; SEGMENTS as usize],
+    trains: [Option<Train>; TRAINS as usize],
     due: u8,
 }
 
@@ -62,10 +63,20 @@ pub enum Call<'a> {
     Position,
 }
 
+/// The steps of a cycle. "Order: speed, request, grant, position, speed."
+pub const fn cycle(wishes: &[u16]) -> [Call<'_>; 4] {
+    [Call::Speed { wishes }, Call::Request, Call::Grant, Call::Position]
+}
+
 /// Load: an area without trains, speed due; or the refusal, 1 to 10, with its place.
 pub fn load(file: &[u8]) -> Result<Area, Refusal> {
     let tables = read(file)?;
-    Ok(Area { tables, allocations: [0; 62], trains: [None; 24], due: SPEED })
+    Ok(Area { tables, allocations: [0; SEGMENTS as usize], trains: [None; TRAINS as usize], due: SPEED })
+}
+
+/// Load's answer, "a number and a place"; 0 is done.
+pub fn answer_of(file: &[u8]) -> (u8, u16) {
+    load(file).map_or_else(|refusal| (refusal.number, refusal.place), |_| (0, 0))
 }
 
 /// One call on any record: the answer's number and the record handed back.
@@ -137,7 +148,7 @@ impl Area {
             return 11;
         }
         // 13 "number not 1 to 24"
-        if !(1..=24).contains(&train) {
+        if !(1..=u16::from(TRAINS)).contains(&train) {
             return 13;
         }
         // 14 "that train is on the area"
@@ -174,7 +185,7 @@ impl Area {
             return 11;
         }
         // 13 "number not 1 to 24"
-        if !(1..=24).contains(&train) {
+        if !(1..=u16::from(TRAINS)).contains(&train) {
             return 13;
         }
         // 15 "that train is off"
@@ -198,30 +209,25 @@ impl Area {
 
     /// "Speed: 11, 12, 21."
     pub fn speed(&mut self, wishes: &[u16]) -> u8 {
-        if !self.is_sound() {
-            return 11;
-        }
-        if self.due != SPEED {
-            return 12;
+        if let Some(number) = self.turned_away(SPEED) {
+            return number;
         }
         // 21 "the list handed in hasn't 24 entries"
-        if wishes.len() != 24 {
+        if wishes.len() != WISHES {
             return 21;
         }
-        for number in 1..=24 {
-            // "entries of trains off are ignored"
-            let Some(mut train) = self.trains[usize::from(number) - 1] else { continue };
-            let at = self.whereabouts(&train);
-            let limit = self.tables.segment(at.own).limit;
+        // "entries of trains off are ignored"
+        self.each_train_on(|area, number, train, at| {
+            let limit = area.tables.segment(at.own).limit;
             // "Low = max(0, speed − `b`)."
-            let low = train.speed.saturating_sub(self.tables.b);
-            let high = if !self.near(&at) {
+            let low = train.speed.saturating_sub(area.tables.b);
+            let high = if !area.near(at) {
                 // "Not near: up to the segment's limit."
                 limit
             } else {
                 match at.next {
                     // "Near with next allocated to it: up to the smaller of both limits."
-                    Some(next) if self.allocated(next) == number => limit.min(self.tables.segment(next).limit),
+                    Some(next) if area.allocated(next) == number => limit.min(area.tables.segment(next).limit),
                     // "Near without it: exactly low."
                     _ => low,
                 }
@@ -229,74 +235,52 @@ impl Area {
             // "Wishes outside go to the closer end." (Low is never above high: the speed is
             // within the limit, and rule 9 keeps next's limit + b at or above it.)
             train.speed = wishes[usize::from(number) - 1].clamp(low, high);
-            self.trains[usize::from(number) - 1] = Some(train);
-        }
+        });
         self.due = REQUEST;
         0
     }
 
     /// "Request, grant, position: 11, 12."
     pub fn request(&mut self) -> u8 {
-        if !self.is_sound() {
-            return 11;
+        if let Some(number) = self.turned_away(REQUEST) {
+            return number;
         }
-        if self.due != REQUEST {
-            return 12;
-        }
-        for number in 1..=24 {
-            let Some(mut train) = self.trains[usize::from(number) - 1] else { continue };
-            let at = self.whereabouts(&train);
-            // "a near train whose next exists and isn't allocated to it asks"
-            train.asks = self.near(&at) && at.next.is_some_and(|next| self.allocated(next) != number);
-            self.trains[usize::from(number) - 1] = Some(train);
-        }
+        // "a near train whose next exists and isn't allocated to it asks"
+        self.each_train_on(|area, number, train, at| {
+            train.asks = area.near(at) && at.next.is_some_and(|next| area.allocated(next) != number);
+        });
         self.due = GRANT;
         0
     }
 
     pub fn grant(&mut self) -> u8 {
-        if !self.is_sound() {
-            return 11;
-        }
-        if self.due != GRANT {
-            return 12;
+        if let Some(number) = self.turned_away(GRANT) {
+            return number;
         }
         // "each unallocated segment goes to the least train number asking for it; all asking
         // ends": in the order of the numbers, the first to ask takes it.
-        for number in 1..=24 {
-            let Some(mut train) = self.trains[usize::from(number) - 1] else { continue };
-            if train.asks {
-                if let Some(next) = self.whereabouts(&train).next {
-                    if self.allocated(next) == 0 {
-                        self.allocate(next, number);
-                    }
-                }
+        self.each_train_on(|area, number, train, at| {
+            if let Some(next) = at.next.filter(|&next| train.asks && area.allocated(next) == 0) {
+                area.allocate(next, number);
             }
             train.asks = false;
-            self.trains[usize::from(number) - 1] = Some(train);
-        }
+        });
         self.due = POSITION;
         0
     }
 
     pub fn position(&mut self) -> u8 {
-        if !self.is_sound() {
-            return 11;
+        if let Some(number) = self.turned_away(POSITION) {
+            return number;
         }
-        if self.due != POSITION {
-            return 12;
-        }
-        for number in 1..=24u8 {
-            let Some(mut train) = self.trains[usize::from(number) - 1] else { continue };
-            let old = self.whereabouts(&train);
-            // "position + speed. At or above the length it moves on: length subtracted, old
-            // segment freed." The way grows by the speed; the rest follows from the way.
+        // "position + speed. At or above the length it moves on: length subtracted, old
+        // segment freed." The way grows by the speed; the rest follows from the way.
+        self.each_train_on(|area, _, train, old| {
             train.way += u64::from(train.speed);
-            if u64::from(old.position) + u64::from(train.speed) >= u64::from(self.tables.segment(old.own).length) {
-                self.allocate(old.own, 0);
+            if u64::from(old.position) + u64::from(train.speed) >= u64::from(area.tables.segment(old.own).length) {
+                area.allocate(old.own, 0);
             }
-            self.trains[usize::from(number) - 1] = Some(train);
-        }
+        });
         self.due = SPEED;
         0
     }
@@ -316,6 +300,24 @@ impl Area {
     /// 11 "the area record breaks a condition": tested on the whole record, at each call.
     fn is_sound(&self) -> bool {
         sound(&self.record())
+    }
+
+    /// What a cycle step tests first: 11, then 12 "a cycle step not due".
+    fn turned_away(&self, step: u8) -> Option<u8> {
+        match self.is_sound() {
+            false => Some(11),
+            true => (self.due != step).then_some(12),
+        }
+    }
+
+    /// A step's change of each train on, in the order of the numbers, with its number and where it is before the step.
+    fn each_train_on(&mut self, change: impl Fn(&mut Area, u8, &mut Train, &Whereabouts)) {
+        for number in 1..=TRAINS {
+            let Some(mut train) = self.trains[usize::from(number) - 1] else { continue };
+            let at = self.whereabouts(&train);
+            change(self, number, &mut train, &at);
+            self.trains[usize::from(number) - 1] = Some(train);
+        }
     }
 
     fn whereabouts(&self, train: &Train) -> Whereabouts {

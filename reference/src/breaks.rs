@@ -3,9 +3,10 @@
 
 use crate::braking::s;
 use crate::file::{check, route_start, segment_start};
+use crate::numbers::*;
 use crate::random::{walk_on, Random};
 use crate::tables::Segment;
-use crate::write::Description;
+use crate::write::{put, put_route, Description};
 
 /// The rule that is broken, what of it, and the change; false where the area has no place for it.
 pub struct Break {
@@ -50,13 +51,18 @@ fn set(file: &mut [u8], at: usize, value: u8) -> bool {
 }
 
 fn put16(file: &mut [u8], at: usize, value: u16) -> bool {
-    file[at..at + 2].copy_from_slice(&value.to_le_bytes());
+    put(file, at, &value.to_le_bytes());
     true
 }
 
 fn put32(file: &mut [u8], at: usize, value: u32) -> bool {
-    file[at..at + 4].copy_from_slice(&value.to_le_bytes());
+    put(file, at, &value.to_le_bytes());
     true
+}
+
+/// Where a block starts.
+fn block(random: &mut Random, place: Where) -> Option<usize> {
+    place.pick(random, 0, BLOCKS - 1).map(|number| BLOCK_SIZE * number)
 }
 
 /// Where a segment's record starts, of 1 to N.
@@ -77,13 +83,13 @@ fn zero_of(random: &mut Random, file: &mut [u8], place: Where, bytes: impl Itera
 }
 
 /// A block with a sum (0 the first, 1 the second) of 0 that its check stores as 255.
-fn stored_as_255(file: &mut [u8], number: usize, sum: usize) -> bool {
-    let block = &mut file[512 * number..][..512];
+fn stored_as_255(file: &mut [u8], at: usize, sum: usize) -> bool {
+    let block = &mut file[at..][..BLOCK_SIZE];
     // the last byte before the check, a zero, counts once in either sum
-    block[509] = 255 - check(block)[sum];
+    block[CHECK_AT - 1] = 255 - check(block)[sum];
     let right = check(block);
-    block[510..512].copy_from_slice(&right);
-    block[510 + sum] = 255;
+    put(block, CHECK_AT, &right);
+    block[CHECK_AT + sum] = 255;
     right[sum] == 0
 }
 
@@ -91,7 +97,8 @@ fn stored_as_255(file: &mut [u8], number: usize, sum: usize) -> bool {
 fn link_pairs(area: &Description, used: bool) -> Vec<usize> {
     (1..)
         .zip(&area.segments)
-        .flat_map(|(number, segment)| [(segment_start(number) + 6, segment.next[0]), (segment_start(number) + 8, segment.previous[0])])
+        .map(|(number, segment)| (segment_start(number), segment))
+        .flat_map(|(at, segment)| [(at + NEXT_AT, segment.next[0]), (at + PREVIOUS_AT, segment.previous[0])])
         .filter(|&(_, first)| !used || first != 0)
         .map(|(at, _)| at)
         .collect()
@@ -137,68 +144,67 @@ fn step(random: &mut Random, area: &Description, file: &mut [u8], place: Where, 
     let to: Vec<u8> = wrong_after(route[p - 1]).collect();
     route.push(*random.of(&to));
     let route = walk_on(random, &area.segments, route, area.routes[k].len());
-    let record = &mut file[route_start(k as u8 + 1)..][..32];
-    record.fill(0);
-    record[0] = route.len() as u8;
-    record[1..=route.len()].copy_from_slice(&route);
+    put_route(file, k as u8 + 1, &route);
     true
 }
 
 // one to a line where it fits, as a table
 #[rustfmt::skip]
 pub const BREAKS: &[Break] = &[
-    Break { rule: 1, name: "shorter", change: |_, _, f, w| { f.truncate([0, 2048, 2559][w as usize]); true } },
-    Break { rule: 1, name: "longer", change: |_, _, f, w| { f.resize([2561, 3072, 5120][w as usize], 0); true } },
-    Break { rule: 2, name: "byte changed", change: |r, _, f, w| { let x = r.within(1, 254) as u8; w.pick(r, 0, 2559).is_some_and(|at| { f[at] ^= x; true }) } },
-    Break { rule: 2, name: "first sum", change: |r, _, f, w| w.pick(r, 0, 4).is_some_and(|k| { f[512 * k + 510] ^= 1; true }) },
-    Break { rule: 2, name: "second sum", change: |r, _, f, w| w.pick(r, 0, 4).is_some_and(|k| { f[512 * k + 511] ^= 128; true }) },
-    Break { rule: 2, name: "first sum of 0 stored as 255", change: |r, _, f, w| w.pick(r, 0, 4).is_some_and(|k| stored_as_255(f, k, 0)) },
-    Break { rule: 2, name: "second sum of 0 stored as 255", change: |r, _, f, w| w.pick(r, 0, 4).is_some_and(|k| stored_as_255(f, k, 1)) },
-    Break { rule: 3, name: "kind", change: |r, _, f, w| w.pick(r, 0, 4).is_some_and(|k| { f[512 * k + 496] ^= 1; true }) },
-    Break { rule: 3, name: "block number", change: |r, _, f, w| w.pick(r, 0, 4).is_some_and(|k| { f[512 * k + 497] ^= 4; true }) },
-    Break { rule: 3, name: "zero of a tail", change: |r, _, f, w| zero_of(r, f, w, (0..5).flat_map(|k| (498..510).map(move |at| 512 * k + at))) },
-    Break { rule: 3, name: "zero of a route block", change: |r, _, f, w| zero_of(r, f, w, (3..5).flat_map(|k| (480..496).map(move |at| 512 * k + at))) },
-    Break { rule: 4, name: "version 0, 2, 255", change: |_, _, f, w| set(f, 0, [0, 2, 255][w as usize]) },
-    Break { rule: 4, name: "segments 0, 63, 255", change: |_, _, f, w| set(f, 1, [0, 63, 255][w as usize]) },
-    Break { rule: 4, name: "routes 0, 31, 255", change: |_, _, f, w| set(f, 2, [0, 31, 255][w as usize]) },
-    Break { rule: 4, name: "byte 3", change: |_, _, f, w| set(f, 3, [1, 128, 255][w as usize]) },
-    Break { rule: 4, name: "gmax 0, 1001, 65,535", change: |_, _, f, w| put16(f, 4, [0, 1001, 65_535][w as usize]) },
-    Break { rule: 4, name: "b 0, gmax + 1, 65,535", change: |_, a, f, w| put16(f, 6, [0, a.gmax + 1, 65_535][w as usize]) },
-    Break { rule: 4, name: "d 0, 1,000,001, the greatest number", change: |_, _, f, w| put32(f, 8, [0, 1_000_001, u32::MAX][w as usize]) },
-    Break { rule: 4, name: "zero of the header", change: |r, _, f, w| zero_of(r, f, w, 12..496) },
+    Break { rule: 1, name: "shorter", change: |_, _, f, w| { f.truncate([0, FILE_SIZE - BLOCK_SIZE, FILE_SIZE - 1][w as usize]); true } },
+    Break { rule: 1, name: "longer", change: |_, _, f, w| { f.resize([FILE_SIZE + 1, FILE_SIZE + BLOCK_SIZE, 2 * FILE_SIZE][w as usize], 0); true } },
+    Break { rule: 2, name: "byte changed", change: |r, _, f, w| { let x = r.within(1, 254) as u8; w.pick(r, 0, FILE_SIZE - 1).is_some_and(|at| { f[at] ^= x; true }) } },
+    Break { rule: 2, name: "first sum", change: |r, _, f, w| block(r, w).is_some_and(|at| { f[at + CHECK_AT] ^= 1; true }) },
+    Break { rule: 2, name: "second sum", change: |r, _, f, w| block(r, w).is_some_and(|at| { f[at + CHECK_AT + 1] ^= 128; true }) },
+    Break { rule: 2, name: "first sum of 0 stored as 255", change: |r, _, f, w| block(r, w).is_some_and(|at| stored_as_255(f, at, 0)) },
+    Break { rule: 2, name: "second sum of 0 stored as 255", change: |r, _, f, w| block(r, w).is_some_and(|at| stored_as_255(f, at, 1)) },
+    Break { rule: 3, name: "kind", change: |r, _, f, w| block(r, w).is_some_and(|at| { f[at + KIND_AT] ^= 1; true }) },
+    Break { rule: 3, name: "block number", change: |r, _, f, w| block(r, w).is_some_and(|at| { f[at + BLOCK_NUMBER_AT] ^= 4; true }) },
+    Break { rule: 3, name: "zero of a tail", change: |r, _, f, w| zero_of(r, f, w, (0..BLOCKS).flat_map(|k| TAIL_ZEROS.map(move |at| BLOCK_SIZE * k + at))) },
+    Break { rule: 3, name: "zero of a route block", change: |r, _, f, w| zero_of(r, f, w, (3..BLOCKS).flat_map(|k| ROUTE_BLOCK_ZEROS.map(move |at| BLOCK_SIZE * k + at))) },
+    Break { rule: 4, name: "version 0, 2, 255", change: |_, _, f, w| set(f, VERSION_AT, [0, 2, 255][w as usize]) },
+    Break { rule: 4, name: "segments 0, 63, 255", change: |_, _, f, w| set(f, N_AT, [0, SEGMENTS + 1, 255][w as usize]) },
+    Break { rule: 4, name: "routes 0, 31, 255", change: |_, _, f, w| set(f, R_AT, [0, ROUTES + 1, 255][w as usize]) },
+    Break { rule: 4, name: "byte 3", change: |_, _, f, w| set(f, ZERO_AT, [1, 128, 255][w as usize]) },
+    Break { rule: 4, name: "gmax 0, 1001, 65,535", change: |_, _, f, w| put16(f, GMAX_AT, [0, TOP_SPEED + 1, 65_535][w as usize]) },
+    Break { rule: 4, name: "b 0, gmax + 1, 65,535", change: |_, a, f, w| put16(f, B_AT, [0, a.gmax + 1, 65_535][w as usize]) },
+    Break { rule: 4, name: "d 0, 1,000,001, the greatest number", change: |_, _, f, w| put32(f, D_AT, [0, LONGEST + 1, u32::MAX][w as usize]) },
+    Break { rule: 4, name: "zero of the header", change: |r, _, f, w| zero_of(r, f, w, HEADER_ZEROS) },
     Break { rule: 5, name: "margin", change: |r, a, f, w| {
         let least = s(a.b.into(), a.gmax.into()) as usize;
-        w.pick(r, 1, least - 1).is_some_and(|d| put32(f, 8, d as u32))
+        w.pick(r, 1, least - 1).is_some_and(|d| put32(f, D_AT, d as u32))
     } },
     // the header is right up to a `d` of 1,000,000, and no length is: from 1,000,000 - gmax on none is above d + gmax
-    Break { rule: 6, name: "d up to 1,000,000", change: |r, a, f, w| w.pick(r, 1_000_000 - usize::from(a.gmax), 1_000_000).is_some_and(|d| put32(f, 8, d as u32)) },
-    Break { rule: 6, name: "length at its bound", change: |r, a, f, w| segment(r, a, w).is_some_and(|at| put32(f, at, a.d + u32::from(a.gmax))) },
-    Break { rule: 6, name: "length over 1,000,000", change: |r, a, f, w| segment(r, a, w).is_some_and(|at| put32(f, at, *r.of(&[1_000_001, u32::MAX]))) },
-    Break { rule: 6, name: "length 0", change: |r, a, f, w| segment(r, a, w).is_some_and(|at| put32(f, at, 0)) },
-    Break { rule: 6, name: "limit 0", change: |r, a, f, w| segment(r, a, w).is_some_and(|at| put16(f, at + 4, 0)) },
-    Break { rule: 6, name: "limit over gmax", change: |r, a, f, w| segment(r, a, w).is_some_and(|at| put16(f, at + 4, *r.of(&[a.gmax + 1, u16::MAX]))) },
+    Break { rule: 6, name: "d up to 1,000,000", change: |r, a, f, w| {
+        w.pick(r, LONGEST as usize - usize::from(a.gmax), LONGEST as usize).is_some_and(|d| put32(f, D_AT, d as u32))
+    } },
+    Break { rule: 6, name: "length at its bound", change: |r, a, f, w| segment(r, a, w).is_some_and(|at| put32(f, at + LENGTH_AT, a.d + u32::from(a.gmax))) },
+    Break { rule: 6, name: "length over 1,000,000", change: |r, a, f, w| segment(r, a, w).is_some_and(|at| put32(f, at + LENGTH_AT, *r.of(&[LONGEST + 1, u32::MAX]))) },
+    Break { rule: 6, name: "length 0", change: |r, a, f, w| segment(r, a, w).is_some_and(|at| put32(f, at + LENGTH_AT, 0)) },
+    Break { rule: 6, name: "limit 0", change: |r, a, f, w| segment(r, a, w).is_some_and(|at| put16(f, at + LIMIT_AT, 0)) },
+    Break { rule: 6, name: "limit over gmax", change: |r, a, f, w| segment(r, a, w).is_some_and(|at| put16(f, at + LIMIT_AT, *r.of(&[a.gmax + 1, u16::MAX]))) },
     Break { rule: 6, name: "link over N", change: |r, a, f, w| w.of(r, &link_pairs(a, false)).is_some_and(|at| set(f, at, *r.of(&[a.segments.len() as u8 + 1, 255]))) },
     Break { rule: 6, name: "second link over N", change: |r, a, f, w| w.of(r, &link_pairs(a, true)).is_some_and(|at| set(f, at + 1, a.segments.len() as u8 + 1)) },
     Break { rule: 6, name: "second link alone", change: |r, a, f, w| {
         w.of(r, &link_pairs(a, false)).is_some_and(|at| { f[at] = 0; f[at + 1] = r.within(1, a.segments.len() as u64) as u8; true })
     } },
     Break { rule: 6, name: "second link the same", change: |r, a, f, w| w.of(r, &link_pairs(a, true)).is_some_and(|at| { f[at + 1] = f[at]; true }) },
-    Break { rule: 6, name: "flags", change: |r, a, f, w| segment(r, a, w).is_some_and(|at| set(f, at + 10, *r.of(&[4, 128, 255]))) },
+    Break { rule: 6, name: "flags", change: |r, a, f, w| segment(r, a, w).is_some_and(|at| set(f, at + FLAGS_AT, *r.of(&[4, 128, 255]))) },
     Break { rule: 6, name: "zero of a segment record", change: |r, a, f, w| {
-        zero_of(r, f, w, (1..=a.segments.len()).flat_map(|k| (11..16).map(move |at| segment_start(k as u8) + at)))
+        zero_of(r, f, w, (1..=a.segments.len()).flat_map(|k| SEGMENT_ZEROS.map(move |at| segment_start(k as u8) + at)))
     } },
     Break { rule: 6, name: "record above N", change: |r, a, f, w| {
-        zero_of(r, f, w, (a.segments.len() + 1..=62).flat_map(|k| (0..16).map(move |at| segment_start(k as u8) + at)))
+        zero_of(r, f, w, (a.segments.len() + 1..=SEGMENTS.into()).flat_map(|k| (0..SEGMENT_SIZE).map(move |at| segment_start(k as u8) + at)))
     } },
     Break { rule: 7, name: "next without previous", change: |r, a, f, w| {
-        w.of(r, &linked(a, false)).is_some_and(|(k, slot)| unlink(f, segment_start(k as u8) + 8, slot))
+        w.of(r, &linked(a, false)).is_some_and(|(k, slot)| unlink(f, segment_start(k as u8) + PREVIOUS_AT, slot))
     } },
     Break { rule: 7, name: "previous without next", change: |r, a, f, w| {
-        w.of(r, &linked(a, true)).is_some_and(|(k, slot)| unlink(f, segment_start(k as u8) + 6, slot))
+        w.of(r, &linked(a, true)).is_some_and(|(k, slot)| unlink(f, segment_start(k as u8) + NEXT_AT, slot))
     } },
     Break { rule: 8, name: "link not rising", change: |r, a, f, w| {
         backward(r, a, w).is_some_and(|(from, to)| {
-            let (next, previous) = (segment_start(from as u8) + 6, segment_start(to as u8) + 8);
+            let (next, previous) = (segment_start(from as u8) + NEXT_AT, segment_start(to as u8) + PREVIOUS_AT);
             let (i, j) = (usize::from(f[next] != 0), usize::from(f[previous] != 0));
             f[next + i] = to as u8;
             f[previous + j] = from as u8;
@@ -209,10 +215,10 @@ pub const BREAKS: &[Break] = &[
         let steep: Vec<(usize, usize)> = linked(a, true).into_iter().filter(|&(k, _)| a.segments[k - 1].limit > a.b + 1).collect();
         w.of(r, &steep).is_some_and(|(k, slot)| {
             let below = a.segments[k - 1].limit - a.b - 1;
-            put16(f, segment_start(a.segments[k - 1].next[slot]) + 4, if r.one_in(2) { below } else { r.within(1, below.into()) as u16 })
+            put16(f, segment_start(a.segments[k - 1].next[slot]) + LIMIT_AT, if r.one_in(2) { below } else { r.within(1, below.into()) as u16 })
         })
     } },
-    Break { rule: 10, name: "count", change: |r, a, f, w| route(r, a, w).is_some_and(|at| set(f, at, *r.of(&[0, 32, 255]))) },
+    Break { rule: 10, name: "count", change: |r, a, f, w| route(r, a, w).is_some_and(|at| set(f, at, *r.of(&[0, ROUTE_SEGMENTS + 1, 255]))) },
     Break { rule: 10, name: "number outside", change: |r, a, f, w| {
         let numbers: Vec<usize> = (1..).zip(&a.routes).flat_map(|(k, route)| (1..=route.len()).map(move |p| route_start(k) + p)).collect();
         w.of(r, &numbers).is_some_and(|at| set(f, at, *r.of(&[0, a.segments.len() as u8 + 1, 255])))
@@ -223,9 +229,9 @@ pub const BREAKS: &[Break] = &[
         step(r, a, f, w, |segment, number, to| to > number && !segment.next.contains(&to))
     } },
     Break { rule: 10, name: "zero of a route record", change: |r, a, f, w| {
-        zero_of(r, f, w, (1..).zip(&a.routes).flat_map(|(k, route)| (route.len() + 1..32).map(move |p| route_start(k) + p)))
+        zero_of(r, f, w, (1..).zip(&a.routes).flat_map(|(k, route)| (route.len() + 1..ROUTE_SIZE).map(move |p| route_start(k) + p)))
     } },
     Break { rule: 10, name: "record above R", change: |r, a, f, w| {
-        zero_of(r, f, w, (a.routes.len() + 1..=30).flat_map(|k| (0..32).map(move |at| route_start(k as u8) + at)))
+        zero_of(r, f, w, (a.routes.len() + 1..=ROUTES.into()).flat_map(|k| (0..ROUTE_SIZE).map(move |at| route_start(k as u8) + at)))
     } },
 ];

@@ -1,238 +1,298 @@
-//! The section "Whole runs": a checker of demand 3 that works from the list alone.
+//! The section "Whole runs" and demand 3, a function for each sentence, in their order: a checker that works from the list alone.
 //!
-//! "For every list of the six calls (enter, leave, speed, request, grant, position), refused
-//! ones included, in any order and with any wishes, from an area freshly loaded from any
-//! accepted file: no two trains are on one segment; every segment that a train is on is
-//! allocated to it and its speed isn't above the limit there; every allocated segment is one
-//! that its train is on or was granted next; every train, braking fully from the next speed
-//! step on, stops within the segments then allocated to it."
+//! Demand 3: "For every list of the six calls (enter, leave, speed, request, grant, position), refused ones included, in any order and
+//! with any wishes, from an area freshly loaded from any accepted file: no two trains are on one segment; every segment that a train is
+//! on is allocated to it and its speed isn't above the limit there; every allocated segment is one that its train is on or was granted
+//! next; every train, braking fully from the next speed step on, stops within the segments then allocated to it."
 //!
-//! It shares with the calls only the tables, S and B. It keeps for itself which trains are on, their routes,
-//! their ways and what was granted to them; speeds, step due and allocations are those of the
-//! record handed back.
+//! It shares with the calls only the tables, S and B. It keeps for itself which trains are on, their routes, their ways and what was
+//! granted to them. Speeds, step due and allocations are those of the record handed back: the comparison holds them, and the answers,
+//! against the second program's after each call.
 
 use crate::area::Call;
 use crate::braking::{b_rest, s};
+use crate::numbers::{SEGMENTS, TRAINS};
 use crate::record::{Record, SPEED};
 use crate::tables::Tables;
 
-/// A train on, by the list.
-#[derive(Clone, Copy)]
-struct On {
-    route: u8,
-    way: u64,
-    /// by segment number: a grant step since the enter allocated it to the train
-    granted: [bool; 63],
-}
+type Verdict = Result<(), String>;
 
-/// Where a train on is, by its way.
-#[derive(Clone, Copy)]
-struct Own {
-    place: usize,
-    start: u64,
-    segment: u8,
-    next: Option<u8>,
-}
-
+/// A list of the six calls from one load, as far as it was told.
 #[derive(Clone)]
 pub struct Demand3 {
     tables: Tables,
-    trains: [Option<On>; 24],
-    /// of the record that the call before handed back
-    speeds: [u16; 24],
-    allocations: [u8; 62],
+    /// train number n at index n − 1; None while it is off
+    trains: [Option<Train>; TRAINS as usize],
+    /// the record that the last call handed back
+    record: Record,
 }
+
+/// A train on, by the list.
+#[derive(Clone, Copy)]
+struct Train {
+    route: u8,
+    way: u64,
+    /// segment number k at index k − 1: a grant step since the enter allocated it to the train
+    granted: [bool; SEGMENTS as usize],
+}
+
+/// Where a train on is, by its way.
+struct Own<'a> {
+    number: u8,
+    /// its own segment, the place of that in its route, from 1, and its position there
+    segment: u8,
+    place: usize,
+    position: u64,
+    /// the segments that come after its own in its route
+    following: &'a [u8],
+}
+
+impl Own<'_> {
+    /// "Its next is the route's next segment, if any."
+    fn next(&self) -> Option<u8> {
+        self.following.first().copied()
+    }
+}
+
+/// Wrong unless it holds.
+fn holds(it: bool, wrong: impl FnOnce() -> String) -> Verdict {
+    it.then_some(()).ok_or_else(wrong)
+}
+
+// ---- Whole runs: the list
 
 impl Demand3 {
     /// "It starts from the record of a load answered done: no allocations, no trains, speed due."
+    /// "Report and route view hand back no record and stand in no list; another load starts another list."
     pub fn new(tables: &Tables) -> Demand3 {
-        Demand3 { tables: *tables, trains: [None; 24], speeds: [0; 24], allocations: [0; 62] }
+        Demand3 { tables: *tables, trains: [None; TRAINS as usize], record: Record::loaded(*tables) }
     }
 
     /// The next call of the list, the number of its answer and the record handed back.
-    pub fn tell(&mut self, call: &Call, answer: u8, record: &Record) -> Result<(), String> {
-        let taken_in = self.take_in(call, answer, record);
-        self.speeds = record.trains.map(|train| train.speed);
-        self.allocations = record.allocations;
-        taken_in?;
-        // A list starts from a load answered done and each call hands back a sound record.
-        if answer == 11 {
-            return Err("an answer is 11, unsound".to_string());
+    /// "Each call is handed the record that the one before handed back, after a refusal too."
+    pub fn tell(&mut self, call: &Call, answer: u8, record: &Record) -> Verdict {
+        let handed_in = std::mem::replace(&mut self.record, *record);
+        self.answer_can_be(call, answer)?;
+        if answer == 0 {
+            self.trains_on(call);
+            self.ways_grow(call, &handed_in);
+            self.grants(call, &handed_in);
         }
-        self.check(record)
+        self.same_trains_on_and_routes()?;
+        let owns = self.own_segments()?;
+        self.same_places_and_positions(&owns)?;
+        self.no_two_trains_on_one_segment(&owns)?;
+        self.own_segments_allocated(&owns)?;
+        self.speeds_within_limits(&owns)?;
+        self.allocated_is_own_or_granted_next(&owns)?;
+        self.every_train_stops(&owns)
+    }
+}
+
+// ---- Whole runs: "Its words"
+
+impl Demand3 {
+    /// "A train is on the area from an enter of it answered done until the next leave of it answered done."
+    /// "A train's way is 0 at that enter ..": and nothing was granted to it since.
+    fn trains_on(&mut self, call: &Call) {
+        match *call {
+            Call::Enter { train, route, .. } => {
+                let entered = Train { route: route as u8, way: 0, granted: [false; SEGMENTS as usize] };
+                self.trains[usize::from(train) - 1] = Some(entered);
+            }
+            Call::Leave { train } => self.trains[usize::from(train) - 1] = None,
+            _ => {}
+        }
     }
 
-    /// Keeps what the list says.
-    fn take_in(&mut self, call: &Call, answer: u8, record: &Record) -> Result<(), String> {
-        if answer != 0 {
-            return Ok(());
+    /// "Answers .. are those that the refusals and the calls above give": of these, what the trains on and the tables tell by
+    /// themselves. A list starts from a load answered done and each call hands back a sound record, so 11 is never given.
+    fn answer_can_be(&self, call: &Call, answer: u8) -> Verdict {
+        let is_train = |train: u16| (1..=u16::from(TRAINS)).contains(&train);
+        let is_on = |train: u16| is_train(train) && self.trains[usize::from(train) - 1].is_some();
+        match (*call, answer) {
+            (_, 11) => Err("an answer is 11, unsound".to_string()),
+            (Call::Enter { train, route, .. }, 0) => {
+                let there_are = is_train(train) && (1..=u16::from(self.tables.r)).contains(&route);
+                holds(there_are, || format!("enter of train {train} on route {route} is answered done"))?;
+                holds(!is_on(train), || format!("enter of train {train} is answered done while it is on"))
+            }
+            (Call::Leave { train }, 0) => holds(is_on(train), || format!("leave of train {train} is answered done while it is off")),
+            _ => Ok(()),
         }
-        match *call {
-            // "A train is on the area from an enter of it answered done until the next leave
-            // of it answered done." "A train's way is 0 at that enter"
-            Call::Enter { train, route, .. } => {
-                if !(1..=24).contains(&train) || !(1..=u16::from(self.tables.r)).contains(&route) {
-                    return Err(format!("enter of train {train} on route {route} is answered done"));
-                }
-                let on = &mut self.trains[usize::from(train) - 1];
-                if on.is_some() {
-                    return Err(format!("enter of train {train} is answered done while it is on"));
-                }
-                *on = Some(On { route: route as u8, way: 0, granted: [false; 63] });
-            }
-            Call::Leave { train } => {
-                if !(1..=24).contains(&train) || self.trains[usize::from(train) - 1].is_none() {
-                    return Err(format!("leave of train {train} is answered done while it is off"));
-                }
-                self.trains[usize::from(train) - 1] = None;
-            }
-            // ".. and a grant step answered done since that enter allocated it to the train"
-            Call::Grant => {
-                for segment in 1..=62 {
-                    let (before, now) = (self.allocations[segment - 1], record.allocations[segment - 1]);
-                    if now != before && (1..=24).contains(&now) {
-                        if let Some(on) = &mut self.trains[usize::from(now) - 1] {
-                            on.granted[segment] = true;
-                        }
-                    }
-                }
-            }
-            // ".. and grows by its speed at each position step answered done"
-            // reading: its speed is the one that it has when the step is called, that of the
-            // record handed in.
-            Call::Position => {
-                for (on, speed) in self.trains.iter_mut().zip(self.speeds) {
-                    if let Some(on) = on {
-                        on.way += u64::from(speed);
-                    }
-                }
-            }
-            Call::Speed { .. } | Call::Request => {}
+    }
+
+    /// ".. the record handed back holds the same trains on, routes, ..". A train off has neither route nor place nor position there.
+    fn same_trains_on_and_routes(&self) -> Verdict {
+        for (number, (train, told)) in (1..).zip(self.trains.iter().zip(&self.record.trains)) {
+            let Some(train) = train else {
+                let is_off = (told.route, told.place, told.position) == (0, 0, 0);
+                holds(is_off, || format!("train {number} is off, but not in the record"))?;
+                continue;
+            };
+            holds(told.is_on(), || format!("train {number} is on, but not in the record"))?;
+            holds(told.route == train.route, || format!("train {number} is on route {}, the record says {}", train.route, told.route))?;
         }
         Ok(())
     }
 
-    /// "Its own segment is the one of its route that starts at or before its way and ends
-    /// beyond it, lengths summed from the route's start."
-    fn own(&self, on: &On) -> Option<Own> {
-        let listed = self.tables.route(on.route).listed();
+    /// "A train's way .. grows by its speed at each position step answered done."
+    // reading: its speed is the one that it has when the step is called, that of the record handed in.
+    fn ways_grow(&mut self, call: &Call, handed_in: &Record) {
+        if !matches!(call, Call::Position) {
+            return;
+        }
+        for (train, raw) in self.trains.iter_mut().zip(&handed_in.trains) {
+            if let Some(train) = train {
+                train.way += u64::from(raw.speed);
+            }
+        }
+    }
+
+    /// "Its own segment is the one of its route that starts at or before its way and ends beyond it, lengths summed from the route's
+    /// start. It is on that segment and no other ... Its position is its way less that segment's start."
+    fn own_segment(&self, number: u8, train: &Train) -> Option<Own<'_>> {
+        let listed = self.tables.route(train.route).listed();
         let mut start = 0;
-        let mut place = 1;
-        while place <= listed.len() {
-            let segment = listed[place - 1];
+        for (place, &segment) in (1..).zip(listed) {
             let end = start + self.length(segment);
-            if start <= on.way && on.way < end {
-                return Some(Own { place, start, segment, next: listed.get(place).copied() });
+            if start <= train.way && train.way < end {
+                return Some(Own { number, segment, place, position: train.way - start, following: &listed[place..] });
             }
             start = end;
-            place += 1;
         }
         None
+    }
+
+    /// Every train on has an own segment.
+    fn own_segments(&self) -> Result<Vec<Own<'_>>, String> {
+        let beyond = |number, way| format!("train {number} has no own segment: its way {way} is beyond its route");
+        self.on().map(|(number, train)| self.own_segment(number, train).ok_or_else(|| beyond(number, train.way))).collect()
+    }
+
+    /// ".. the limit there is that segment's."
+    fn limit(&self, own: &Own) -> u16 {
+        self.tables.segment(own.segment).limit
+    }
+
+    /// "The record's place and position are these."
+    fn same_places_and_positions(&self, owns: &[Own]) -> Verdict {
+        for Own { number, place, position, .. } in owns {
+            let told = self.record.train(*number);
+            holds(usize::from(told.place) == *place, || format!("train {number} is at place {place}, the record says {}", told.place))?;
+            let same = u64::from(told.position) == *position;
+            holds(same, || format!("train {number} is at position {position}, the record says {}", told.position))?;
+        }
+        Ok(())
+    }
+
+    /// ".. a grant step answered done since that enter allocated it to the train."
+    fn grants(&mut self, call: &Call, handed_in: &Record) {
+        if !matches!(call, Call::Grant) {
+            return;
+        }
+        for segment in 1..=SEGMENTS {
+            let holder = self.record.allocated(segment);
+            if holder != handed_in.allocated(segment) && (1..=TRAINS).contains(&holder) {
+                if let Some(train) = &mut self.trains[usize::from(holder) - 1] {
+                    train.granted[usize::from(segment) - 1] = true;
+                }
+            }
+        }
+    }
+
+    /// "A segment was granted next to it if it is its next and a grant step answered done since that enter allocated it to the train."
+    fn was_granted_next(&self, own: &Own, segment: u8) -> Verdict {
+        let Own { number, .. } = own;
+        let granted = self.trains[usize::from(*number) - 1].is_some_and(|train| train.granted[usize::from(segment) - 1]);
+        holds(own.next() == Some(segment), || format!("segment {segment} is allocated to train {number}, neither its own nor its next"))?;
+        holds(granted, || format!("segment {segment} is allocated to train {number}, its next but never granted"))
+    }
+
+    /// "Full braking lowers the speed v by `b` at each speed step, down to 0. The way still to run is B(v) with speed due, S(v) with
+    /// another step due."
+    fn way_still_to_run(&self, own: &Own) -> u64 {
+        let (b, v) = (self.tables.b.into(), self.record.train(own.number).speed.into());
+        if self.record.due == SPEED {
+            b_rest(b, v)
+        } else {
+            s(b, v)
+        }
+    }
+
+    /// ".. the summed lengths of its own segment and of those allocated to it that follow on its route without a gap."
+    fn room(&self, own: &Own) -> u64 {
+        let allocated = own.following.iter().take_while(|&&segment| self.record.allocated(segment) == own.number);
+        self.length(own.segment) + allocated.map(|&segment| self.length(segment)).sum::<u64>()
+    }
+
+    /// "The train stops within its segments if position + that way is less than the summed lengths ..".
+    fn stops_within_its_segments(&self, own: &Own) -> Verdict {
+        let (Own { number, position, .. }, way, room) = (own, self.way_still_to_run(own), self.room(own));
+        let wrong = || format!("train {number} does not stop within its segments: {position} + {way} is not less than {room}");
+        holds(position + way < room, wrong)
     }
 
     fn length(&self, segment: u8) -> u64 {
         self.tables.segment(segment).length.into()
     }
 
-    /// Every sentence of demand 3 on the record handed back.
-    fn check(&self, record: &Record) -> Result<(), String> {
-        let allocated = |segment: u8| record.allocations[usize::from(segment) - 1];
+    /// The trains on with their numbers.
+    fn on(&self) -> impl Iterator<Item = (u8, &Train)> {
+        (1..).zip(&self.trains).filter_map(|(number, train)| train.as_ref().map(|train| (number, train)))
+    }
+}
 
-        let mut owns: [Option<Own>; 24] = [None; 24];
-        for number in 1..=24 {
-            let raw = &record.trains[number - 1];
-            // "the record handed back holds the same trains on, routes, .."
-            let Some(on) = &self.trains[number - 1] else {
-                if (raw.route, raw.place, raw.position) != (0, 0, 0) {
-                    return Err(format!("train {number} is off, but not in the record"));
-                }
-                continue;
-            };
-            if raw.route == 0 {
-                return Err(format!("train {number} is on, but not in the record"));
-            }
-            if raw.route != on.route {
-                return Err(format!("train {number} is on route {}, the record says {}", on.route, raw.route));
-            }
-            let Some(own) = self.own(on) else {
-                return Err(format!("train {number} has no own segment: its way {} is beyond its route", on.way));
-            };
-            // "The record's place and position are these."
-            if usize::from(raw.place) != own.place {
-                return Err(format!("train {number} is at place {}, the record says {}", own.place, raw.place));
-            }
-            let position = on.way - own.start;
-            if u64::from(raw.position) != position {
-                return Err(format!("train {number} is at position {position}, the record says {}", raw.position));
-            }
-            owns[number - 1] = Some(own);
-        }
+// ---- Demand 3
 
-        for (index, own) in owns.iter().enumerate() {
-            let Some(own) = own else { continue };
-            let number = index + 1;
-            // "no two trains are on one segment"
-            for (other, its) in owns.iter().enumerate().skip(number) {
-                if its.is_some_and(|its| its.segment == own.segment) {
-                    return Err(format!("trains {number} and {} are on segment {}", other + 1, own.segment));
-                }
-            }
-            // "every segment that a train is on is allocated to it"
-            if usize::from(allocated(own.segment)) != number {
-                return Err(format!("segment {} is not allocated to train {number} on it", own.segment));
-            }
-            // "and its speed isn't above the limit there"
-            let speed = record.trains[index].speed;
-            let limit = self.tables.segment(own.segment).limit;
-            if speed > limit {
-                return Err(format!("train {number} has speed {speed} above the limit {limit}"));
-            }
-        }
-
-        // "every allocated segment is one that its train is on or was granted next"; "A segment
-        // was granted next to it if it is its next and a grant step answered done since that
-        // enter allocated it to the train."
-        for segment in 1..=62 {
-            let number = usize::from(allocated(segment));
-            if number == 0 {
-                continue;
-            }
-            let (Some(Some(on)), Some(Some(own))) = (self.trains.get(number - 1), owns.get(number - 1)) else {
-                return Err(format!("segment {segment} is allocated to train {number}, which is not on"));
-            };
-            if own.segment == segment {
-                continue;
-            }
-            if own.next != Some(segment) {
-                return Err(format!("segment {segment} is allocated to train {number}, neither its own nor its next"));
-            }
-            if !on.granted[usize::from(segment)] {
-                return Err(format!("segment {segment} is allocated to train {number}, its next but never granted"));
-            }
-        }
-
-        // "every train, braking fully from the next speed step on, stops within the segments
-        // then allocated to it"
-        for (index, own) in owns.iter().enumerate() {
-            let (Some(on), Some(own)) = (&self.trains[index], own) else { continue };
-            let number = index + 1;
-            // "The way still to run is B(v) with speed due, S(v) with another step due."
-            let (b, v) = (self.tables.b.into(), record.trains[index].speed.into());
-            let way_to_run = if record.due == SPEED { b_rest(b, v) } else { s(b, v) };
-            // ".. less than the summed lengths of its own segment and of those allocated to it
-            // that follow on its route without a gap"
-            let following = &self.tables.route(on.route).listed()[own.place..];
-            let room = self.length(own.segment)
-                + following
-                    .iter()
-                    .take_while(|&&segment| usize::from(allocated(segment)) == number)
-                    .map(|&segment| self.length(segment))
-                    .sum::<u64>();
-            let position = on.way - own.start;
-            if position + way_to_run >= room {
-                return Err(format!("train {number} does not stop within its segments: {position} + {way_to_run} is not less than {room}"));
+impl Demand3 {
+    /// "no two trains are on one segment"
+    fn no_two_trains_on_one_segment(&self, owns: &[Own]) -> Verdict {
+        for (index, Own { number, segment, .. }) in owns.iter().enumerate() {
+            if let Some(other) = owns[index + 1..].iter().find(|other| other.segment == *segment) {
+                return Err(format!("trains {number} and {} are on segment {segment}", other.number));
             }
         }
         Ok(())
+    }
+
+    /// "every segment that a train is on is allocated to it"
+    fn own_segments_allocated(&self, owns: &[Own]) -> Verdict {
+        for Own { number, segment, .. } in owns {
+            let its_own = self.record.allocated(*segment) == *number;
+            holds(its_own, || format!("segment {segment} is not allocated to train {number} on it"))?;
+        }
+        Ok(())
+    }
+
+    /// "and its speed isn't above the limit there"
+    fn speeds_within_limits(&self, owns: &[Own]) -> Verdict {
+        for own in owns {
+            let (number, speed, limit) = (own.number, self.record.train(own.number).speed, self.limit(own));
+            holds(speed <= limit, || format!("train {number} has speed {speed} above the limit {limit}"))?;
+        }
+        Ok(())
+    }
+
+    /// "every allocated segment is one that its train is on or was granted next"
+    fn allocated_is_own_or_granted_next(&self, owns: &[Own]) -> Verdict {
+        for segment in 1..=SEGMENTS {
+            let holder = self.record.allocated(segment);
+            if holder == 0 {
+                continue;
+            }
+            let Some(own) = owns.iter().find(|own| own.number == holder) else {
+                return Err(format!("segment {segment} is allocated to train {holder}, which is not on"));
+            };
+            if own.segment != segment {
+                self.was_granted_next(own, segment)?;
+            }
+        }
+        Ok(())
+    }
+
+    /// "every train, braking fully from the next speed step on, stops within the segments then allocated to it"
+    fn every_train_stops(&self, owns: &[Own]) -> Verdict {
+        owns.iter().try_for_each(|own| self.stops_within_its_segments(own))
     }
 }

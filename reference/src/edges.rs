@@ -2,6 +2,7 @@
 //! of "A sound record". An edge says by itself whether the record is sound there; the sound test is not asked.
 
 use crate::braking::{b_rest, s};
+use crate::numbers::{SEGMENTS, TRAINS};
 use crate::random::Random;
 use crate::record::{RawTrain, Record, GRANT, POSITION, REQUEST, SPEED};
 use crate::tables::{Segment, Tables};
@@ -20,10 +21,10 @@ pub struct Edge {
 /// A sound record: trains anywhere on their routes, one at least.
 pub fn sound_record(random: &mut Random, tables: &Tables, due: u8) -> Record {
     let mut record = Record { due, ..Record::loaded(*tables) };
-    let first = random.within(1, 24) as u8;
+    let first = random.within(1, TRAINS.into()) as u8;
     put_on_anywhere(random, &mut record, first);
     let rare = *random.of(&[1, 2, 8]);
-    for number in 1..=24 {
+    for number in 1..=TRAINS {
         if number != first && random.one_in(rare) {
             put_on_anywhere(random, &mut record, number);
         }
@@ -58,7 +59,7 @@ fn put_on_anywhere(random: &mut Random, record: &mut Record, number: u8) -> bool
 /// has it. False, and nothing changed, where another train has the segment.
 fn put_on(random: &mut Random, record: &mut Record, number: u8, route: u8, place: u8) -> bool {
     let own = record.tables.route(route).numbers[usize::from(place) - 1];
-    if ![0, number].contains(&holder(record, own)) {
+    if ![0, number].contains(&record.allocated(own)) {
         return false;
     }
     record.allocations.iter_mut().filter(|train| **train == number).for_each(|train| *train = 0);
@@ -108,10 +109,6 @@ fn train(record: &mut Record, number: u8) -> &mut RawTrain {
     &mut record.trains[usize::from(number) - 1]
 }
 
-fn holder(record: &Record, segment: u8) -> u8 {
-    record.allocations[usize::from(segment) - 1]
-}
-
 fn allocate(record: &mut Record, segment: u8, number: u8) -> bool {
     record.allocations[usize::from(segment) - 1] = number;
     true
@@ -119,12 +116,11 @@ fn allocate(record: &mut Record, segment: u8, number: u8) -> bool {
 
 /// The numbers of the trains on, or of those off.
 fn numbers(record: &Record, on: bool) -> Vec<u8> {
-    (1..=24).filter(|&number| record.trains[usize::from(number) - 1].is_on() == on).collect()
+    (1..=TRAINS).filter(|&number| record.train(number).is_on() == on).collect()
 }
 
 fn own(record: &Record, number: u8) -> u8 {
-    let train = &record.trains[usize::from(number) - 1];
-    record.tables.route(train.route).numbers[usize::from(train.place) - 1]
+    record.train(number).own(&record.tables)
 }
 
 fn own_segment(record: &Record, number: u8) -> Segment {
@@ -132,24 +128,23 @@ fn own_segment(record: &Record, number: u8) -> Segment {
 }
 
 fn next(record: &Record, number: u8) -> Option<u8> {
-    let train = &record.trains[usize::from(number) - 1];
-    record.tables.route(train.route).listed().get(usize::from(train.place)).copied()
+    record.train(number).next(&record.tables)
 }
 
 /// The next segment, if it is allocated to the train.
 fn held_next(record: &Record, number: u8) -> Option<Segment> {
-    next(record, number).filter(|&next| holder(record, next) == number).map(|next| *record.tables.segment(next))
+    next(record, number).filter(|&next| record.allocated(next) == number).map(|next| *record.tables.segment(next))
 }
 
 /// Allocates the next segment to the train, if there is one that no other train has.
 fn hold_next(record: &mut Record, number: u8) -> Option<Segment> {
-    let next = next(record, number).filter(|&next| [0, number].contains(&holder(record, next)))?;
+    let next = next(record, number).filter(|&next| [0, number].contains(&record.allocated(next)))?;
     allocate(record, next, number);
     held_next(record, number)
 }
 
 fn free_next(record: &mut Record, number: u8) {
-    if let Some(next) = next(record, number).filter(|&next| holder(record, next) == number) {
+    if let Some(next) = next(record, number).filter(|&next| record.allocated(next) == number) {
         allocate(record, next, 0);
     }
 }
@@ -260,7 +255,7 @@ fn off(random: &mut Random, record: &mut Record, change: fn(&mut RawTrain)) -> b
 /// A segment that is free, and not the train's next, allocated to a number.
 fn one_more(random: &mut Random, record: &mut Record, number: u8, to: u8) -> bool {
     let next = next(record, number);
-    let free: Vec<u8> = (1..=record.tables.n).filter(|&segment| holder(record, segment) == 0 && next != Some(segment)).collect();
+    let free: Vec<u8> = (1..=record.tables.n).filter(|&segment| record.allocated(segment) == 0 && next != Some(segment)).collect();
     any(random, &free).is_some_and(|segment| allocate(record, segment, to))
 }
 
@@ -276,7 +271,7 @@ fn own_to_another(random: &mut Random, record: &mut Record, number: u8) -> bool 
 }
 
 fn above_n(random: &mut Random, record: &mut Record, number: u8) -> bool {
-    let above: Vec<u8> = (record.tables.n + 1..=62).collect();
+    let above: Vec<u8> = (record.tables.n + 1..=SEGMENTS).collect();
     any(random, &above).is_some_and(|segment| allocate(record, segment, number))
 }
 
@@ -331,7 +326,7 @@ pub const EDGES: &[Edge] = &[
     Edge { name: "a train off that asks", due: ANY, sound: false, change: |r, x, _| off(r, x, |train| train.asks = true) },
     // "Every allocation is 0 or the number of a train on; above N it is 0."
     Edge { name: "a segment allocated to a train off", due: ANY, sound: false, change: one_more_to_one_off },
-    Edge { name: "a segment allocated to train 25", due: ANY, sound: false, change: |r, x, t| one_more(r, x, t, 25) },
+    Edge { name: "a segment allocated to train 25", due: ANY, sound: false, change: |r, x, t| one_more(r, x, t, TRAINS + 1) },
     Edge { name: "a segment allocated to train 255", due: ANY, sound: false, change: |r, x, t| one_more(r, x, t, 255) },
     Edge { name: "a segment above N allocated", due: ANY, sound: false, change: above_n },
     Edge { name: "a train gone off, its segment still allocated", due: ANY, sound: false, change: |_, x, t| with(x, t, |train| *train = RawTrain::OFF) },

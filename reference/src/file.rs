@@ -1,5 +1,6 @@
 //! The area file: "Five blocks of 512 bytes, numbers little-endian".
 
+use crate::numbers::*;
 use crate::tables::{Route, Segment, Tables};
 
 /// "Each answer has a number and a place; the place is 0 unless named."
@@ -9,17 +10,14 @@ pub struct Refusal {
     pub place: u16,
 }
 
-pub const FILE_SIZE: usize = 2560;
-pub const BLOCK_SIZE: usize = 512;
-
 /// "Kinds: 1 header, 2 and 2 segments, 3 and 3 routes."
-pub const KINDS: [u8; 5] = [1, 2, 2, 3, 3];
+pub const KINDS: [u8; BLOCKS] = [1, 2, 2, 3, 3];
 
 /// "Check: two sums start at 0; for bytes 0 to 509, first = (first + byte) mod 255, then
 /// second = (second + first) mod 255; stored first, second."
 pub fn check(block: &[u8]) -> [u8; 2] {
     let (mut first, mut second) = (0u16, 0u16);
-    for &byte in &block[..510] {
+    for &byte in &block[..CHECK_AT] {
         first = (first + u16::from(byte)) % 255;
         second = (second + first) % 255;
     }
@@ -30,14 +28,14 @@ pub fn check(block: &[u8]) -> [u8; 2] {
 /// blocks 1 and 2.
 pub fn segment_start(number: u8) -> usize {
     let before = usize::from(number) - 1;
-    (1 + before / 31) * BLOCK_SIZE + before % 31 * 16
+    (1 + before / SEGMENTS_A_BLOCK) * BLOCK_SIZE + before % SEGMENTS_A_BLOCK * SEGMENT_SIZE
 }
 
 /// Where route record `number` (1 to 30) starts: "32 bytes, 15 a block, numbered from 1",
 /// blocks 3 and 4.
 pub fn route_start(number: u8) -> usize {
     let before = usize::from(number) - 1;
-    (3 + before / 15) * BLOCK_SIZE + before % 15 * 32
+    (3 + before / ROUTES_A_BLOCK) * BLOCK_SIZE + before % ROUTES_A_BLOCK * ROUTE_SIZE
 }
 
 fn number_16(file: &[u8], at: usize) -> u16 {
@@ -56,28 +54,28 @@ fn all_zero(bytes: &[u8]) -> bool {
 pub fn decode_tables(file: &[u8]) -> Tables {
     let mut tables = Tables::ZERO;
     // "byte 1 segments N"; "byte 2 routes R"; "4-5 `gmax`"; "6-7 `b`"; "8-11 `d`"
-    tables.n = file[1];
-    tables.r = file[2];
-    tables.gmax = number_16(file, 4);
-    tables.b = number_16(file, 6);
-    tables.d = number_32(file, 8);
-    for number in 1..=62 {
+    tables.n = file[N_AT];
+    tables.r = file[R_AT];
+    tables.gmax = number_16(file, GMAX_AT);
+    tables.b = number_16(file, B_AT);
+    tables.d = number_32(file, D_AT);
+    for number in 1..=SEGMENTS {
         let at = segment_start(number);
         // "length (4 bytes), limit (2), two next links, two previous links (a byte each),
         // flags, five zeros"
         tables.segments[usize::from(number) - 1] = Segment {
-            length: number_32(file, at),
-            limit: number_16(file, at + 4),
-            next: [file[at + 6], file[at + 7]],
-            previous: [file[at + 8], file[at + 9]],
-            flags: file[at + 10],
+            length: number_32(file, at + LENGTH_AT),
+            limit: number_16(file, at + LIMIT_AT),
+            next: [file[at + NEXT_AT], file[at + NEXT_AT + 1]],
+            previous: [file[at + PREVIOUS_AT], file[at + PREVIOUS_AT + 1]],
+            flags: file[at + FLAGS_AT],
         };
     }
-    for number in 1..=30 {
+    for number in 1..=ROUTES {
         let at = route_start(number);
         // "count 1 to 31, then the segment numbers, rest zero"
-        let mut route = Route { count: file[at], numbers: [0; 31] };
-        route.numbers.copy_from_slice(&file[at + 1..at + 32]);
+        let mut route = Route { count: file[at], ..Route::ZERO };
+        route.numbers.copy_from_slice(&file[at + 1..at + ROUTE_SIZE]);
         tables.routes[usize::from(number) - 1] = route;
     }
     tables
@@ -86,7 +84,10 @@ pub fn decode_tables(file: &[u8]) -> Tables {
 /// 3 misfiled: "kind, block number or a zero byte (498-509; 480-495 of routes) wrong".
 fn misfiled(number: usize, block: &[u8]) -> bool {
     let kind = KINDS[number];
-    block[496] != kind || usize::from(block[497]) != number || !all_zero(&block[498..510]) || (kind == 3 && !all_zero(&block[480..496]))
+    block[KIND_AT] != kind
+        || usize::from(block[BLOCK_NUMBER_AT]) != number
+        || !all_zero(&block[TAIL_ZEROS])
+        || (kind == 3 && !all_zero(&block[ROUTE_BLOCK_ZEROS]))
 }
 
 /// "Load tests 1 to 10 in that order, each over the whole file." The tables of an accepted
@@ -100,7 +101,7 @@ pub fn read(file: &[u8]) -> Result<Tables, Refusal> {
     }
     // 2 damaged: "a block's check differs", first block
     for (number, block) in file.chunks(BLOCK_SIZE).enumerate() {
-        if check(block) != block[510..512] {
+        if check(block) != block[CHECK_AT..] {
             return refuse(2, number);
         }
     }
@@ -112,7 +113,7 @@ pub fn read(file: &[u8]) -> Result<Tables, Refusal> {
     }
     let tables = decode_tables(file);
     // 4 header: "version, bound or zero broken"
-    if file[0] != 1 || file[3] != 0 || !all_zero(&file[12..496]) || tables.breaks_4() {
+    if file[VERSION_AT] != 1 || file[ZERO_AT] != 0 || !all_zero(&file[HEADER_ZEROS]) || tables.breaks_4() {
         return refuse(4, 0);
     }
     // 5 margin
@@ -120,11 +121,9 @@ pub fn read(file: &[u8]) -> Result<Tables, Refusal> {
         return refuse(5, 0);
     }
     // 6 segment, least record; the "five zeros" are not kept in the tables
-    for number in 1..=62 {
-        let at = segment_start(number);
-        if tables.breaks_6(number) || !all_zero(&file[at + 11..at + 16]) {
-            return refuse(6, number.into());
-        }
+    let zeros_broken = |number| !all_zero(&file[segment_start(number)..][SEGMENT_ZEROS]);
+    if let Some(number) = (1..=SEGMENTS).find(|&number| tables.breaks_6(number) || zeros_broken(number)) {
+        return refuse(6, number.into());
     }
     // 7 joint, "least segment with such a link"
     if let Some(number) = (1..=tables.n).find(|&number| tables.breaks_7(number)) {
@@ -140,7 +139,7 @@ pub fn read(file: &[u8]) -> Result<Tables, Refusal> {
         return refuse(9, number.into());
     }
     // 10 route, least record
-    if let Some(number) = (1..=30).find(|&number| tables.breaks_10(number)) {
+    if let Some(number) = (1..=ROUTES).find(|&number| tables.breaks_10(number)) {
         return refuse(10, number.into());
     }
     Ok(tables)

@@ -6,6 +6,9 @@
 
 // The modules in the paper's order.
 
+// the paper's numbers, each named once
+pub mod numbers;
+
 // Units and braking
 pub mod braking;
 
@@ -38,11 +41,12 @@ pub mod script;
 #[cfg(feature = "unit")]
 pub mod unit;
 
-pub use area::{call_on, load, report_on, Area, Call};
+pub use area::{answer_of, call_on, cycle, load, report_on, Area, Call};
 pub use braking::{b_rest, s};
 pub use demand3::Demand3;
 pub use file::{check, decode_tables, read, Refusal};
+pub use numbers::*;
 pub use record::{sound, RawTrain, Record, GRANT, POSITION, REQUEST, SPEED};
 pub use tables::{Route, Segment, Tables, ENTRY, EXIT};
 pub use view::{route_view, route_view_start};
-pub use write::{area_a, full_area, put_checks, Description};
+pub use write::{area_a, full_area, put_checks, Description, AREA_A_CYCLE, AREA_A_ENTRIES};

@@ -2,6 +2,8 @@
 
 use crate::area::Call;
 use crate::braking::s;
+use crate::numbers::{LONGEST, ROUTES, ROUTE_SEGMENTS, SEGMENTS, TOP_SPEED, TRAINS, WISHES};
+use crate::record::{GRANT, POSITION, REQUEST, SPEED};
 use crate::tables::{Segment, ENTRY, EXIT};
 use crate::write::Description;
 
@@ -46,10 +48,10 @@ impl Random {
 /// `gmax`, `b` and `d` that leave room for lengths; `d` is S(gmax) exactly one time in two. `lively`: few cycles a segment.
 fn speeds(random: &mut Random, lively: bool) -> (u16, u16, u32) {
     loop {
-        let gmax = random.edgy(1, 1000) as u16;
+        let gmax = random.edgy(1, TOP_SPEED.into()) as u16;
         let b = if lively { random.within(u64::from(gmax).div_ceil(3), gmax.into()) } else { random.edgy(1, gmax.into()) } as u16;
         let least = s(b.into(), gmax.into());
-        let highest = 1_000_000 - u64::from(gmax) - 1;
+        let highest = u64::from(LONGEST) - u64::from(gmax) - 1;
         if least <= highest {
             let d = if lively || random.one_in(2) { least } else { random.edgy(least, highest) };
             return (gmax, b, d as u32);
@@ -91,7 +93,7 @@ fn links(random: &mut Random, n: usize) -> (Vec<[u8; 2]>, Vec<[u8; 2]>) {
 /// An area that meets every rule.
 pub fn area(random: &mut Random, lively: bool) -> Description {
     let (gmax, b, d) = speeds(random, lively);
-    let n = random.edgy(1, 62) as usize;
+    let n = random.edgy(1, SEGMENTS.into()) as usize;
     let (next, previous) = links(random, n);
     let shortest = u64::from(d) + u64::from(gmax) + 1;
     let mut limits = vec![0u16; n];
@@ -104,9 +106,9 @@ pub fn area(random: &mut Random, lively: bool) -> Description {
     let segments: Vec<Segment> = (0..n)
         .map(|s| Segment {
             length: if lively {
-                random.within(shortest, (shortest + shortest / 4).min(1_000_000))
+                random.within(shortest, (shortest + shortest / 4).min(LONGEST.into()))
             } else {
-                random.edgy(shortest, 1_000_000)
+                random.edgy(shortest, LONGEST.into())
             } as u32,
             limit: limits[s],
             next: next[s],
@@ -114,14 +116,14 @@ pub fn area(random: &mut Random, lively: bool) -> Description {
             flags: if lively { ENTRY | EXIT } else { random.within(0, 3) as u8 },
         })
         .collect();
-    let routes = (0..random.edgy(1, 30)).map(|_| route(random, &segments)).collect();
+    let routes = (0..random.edgy(1, ROUTES.into())).map(|_| route(random, &segments)).collect();
     Description { gmax, b, d, segments, routes }
 }
 
 /// A walk along next links.
 fn route(random: &mut Random, segments: &[Segment]) -> Vec<u8> {
     let first = random.edgy(1, segments.len() as u64) as u8;
-    let longest = random.edgy(1, 31) as usize;
+    let longest = random.edgy(1, ROUTE_SEGMENTS.into()) as usize;
     walk_on(random, segments, vec![first], longest)
 }
 
@@ -152,7 +154,7 @@ fn about_a_limit(random: &mut Random, area: &Description) -> u16 {
 
 /// Mostly 24 wishes: all alike, or each for itself.
 fn wishes(random: &mut Random, area: &Description) -> Vec<u16> {
-    let count = if random.one_in(20) { *random.of(&[0, 1, 23, 25, 26, 100]) } else { 24 };
+    let count = if random.one_in(20) { *random.of(&[0, 1, WISHES - 1, WISHES + 1, WISHES + 2, 100]) } else { WISHES };
     let all = match random.draw() % 4 {
         0 => None,
         1 => Some(*random.of(&[0, 1, 65_535])),
@@ -201,14 +203,14 @@ impl Owned {
 /// Any call. `due` is the step that is likely due: mostly that one comes, so that trains get on.
 pub fn call(random: &mut Random, area: &Description, due: u8) -> Owned {
     let routes = area.routes.len() as u64;
-    let step = if random.one_in(12) { random.within(0, 3) as u8 } else { due };
+    let step = if random.one_in(12) { random.within(SPEED.into(), POSITION.into()) as u8 } else { due };
     match random.draw() % 20 {
-        0..=2 => Owned::Enter(number(random, 24), number(random, routes), entry_speed(random, area)),
-        3..=4 => Owned::Leave(number(random, 24)),
+        0..=2 => Owned::Enter(number(random, TRAINS.into()), number(random, routes), entry_speed(random, area)),
+        3..=4 => Owned::Leave(number(random, TRAINS.into())),
         _ => match step {
-            0 => Owned::Speed(wishes(random, area)),
-            1 => Owned::Request,
-            2 => Owned::Grant,
+            SPEED => Owned::Speed(wishes(random, area)),
+            REQUEST => Owned::Request,
+            GRANT => Owned::Grant,
             _ => Owned::Position,
         },
     }

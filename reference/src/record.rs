@@ -1,6 +1,7 @@
 //! The area record, with any contents at all, and the section "A sound record".
 
 use crate::braking::{b_rest, s};
+use crate::numbers::{SEGMENTS, TRAINS};
 use crate::tables::Tables;
 
 /// The step due. "Order: speed, request, grant, position, speed."
@@ -27,6 +28,16 @@ impl RawTrain {
     pub fn is_on(&self) -> bool {
         self.route != 0
     }
+
+    /// The segment at its place of its route, both of which there are.
+    pub fn own(&self, tables: &Tables) -> u8 {
+        tables.route(self.route).numbers[usize::from(self.place) - 1]
+    }
+
+    /// "Its next is the route's next segment, if any."
+    pub fn next(&self, tables: &Tables) -> Option<u8> {
+        tables.route(self.route).listed().get(usize::from(self.place)).copied()
+    }
 }
 
 /// "The area record holds the tables, the allocations of all segments and the trains, handed
@@ -35,20 +46,31 @@ impl RawTrain {
 pub struct Record {
     pub tables: Tables,
     /// of segment k at index k − 1: the train's number, 0 for none
-    pub allocations: [u8; 62],
+    pub allocations: [u8; SEGMENTS as usize],
     /// train number n at index n − 1
-    pub trains: [RawTrain; 24],
+    pub trains: [RawTrain; TRAINS as usize],
     /// the step due
     pub due: u8,
 }
 
 impl Record {
     /// "Load's refusal gives the blank record, all zero, itself unsound".
-    pub const BLANK: Record = Record { tables: Tables::ZERO, allocations: [0; 62], trains: [RawTrain::OFF; 24], due: SPEED };
+    pub const BLANK: Record =
+        Record { tables: Tables::ZERO, allocations: [0; SEGMENTS as usize], trains: [RawTrain::OFF; TRAINS as usize], due: SPEED };
 
     /// "A loaded area has no trains; the step due is speed."
     pub fn loaded(tables: Tables) -> Record {
         Record { tables, ..Record::BLANK }
+    }
+
+    /// Train by number, 1 to 24.
+    pub fn train(&self, number: u8) -> &RawTrain {
+        &self.trains[usize::from(number) - 1]
+    }
+
+    /// The number of the train that a segment is allocated to, 0 for none.
+    pub fn allocated(&self, segment: u8) -> u8 {
+        self.allocations[usize::from(segment) - 1]
     }
 }
 
@@ -64,29 +86,26 @@ pub fn sound(record: &Record) -> bool {
         && record.allocations.iter().all(|&train| train == 0 || is_train_on(record, train))
         && record.allocations[usize::from(record.tables.n)..].iter().all(|&train| train == 0)
         // "A train on: .."
-        && (1..=24).all(|number| !is_train_on(record, number) || sound_train_on(record, number))
+        && (1..=TRAINS).all(|number| !is_train_on(record, number) || sound_train_on(record, number))
 }
 
 fn is_train_on(record: &Record, number: u8) -> bool {
-    (1..=24).contains(&number) && record.trains[usize::from(number) - 1].is_on()
+    (1..=TRAINS).contains(&number) && record.train(number).is_on()
 }
 
 /// The sentences about one train on, in a record whose tables meet 4 to 10.
 fn sound_train_on(record: &Record, number: u8) -> bool {
     let tables = &record.tables;
-    let train = &record.trains[usize::from(number) - 1];
+    let train = record.train(number);
 
     // "route 1 to R, place 1 to the route's count"
     if train.route > tables.r {
         return false;
     }
-    let listed = tables.route(train.route).listed();
     if train.place < 1 || train.place > tables.route(train.route).count {
         return false;
     }
-    let own = listed[usize::from(train.place) - 1];
-    // "Its next is the route's next segment, if any."
-    let next = listed.get(usize::from(train.place)).copied();
+    let (own, next) = (train.own(tables), train.next(tables));
 
     // "position < length, speed ≤ limit"
     let segment = tables.segment(own);
@@ -95,11 +114,11 @@ fn sound_train_on(record: &Record, number: u8) -> bool {
     }
 
     // "Its own segment is allocated to it, its next may be, no other is."
-    let allocated_to_it = |segment: u8| record.allocations[usize::from(segment) - 1] == number;
+    let allocated_to_it = |segment: u8| record.allocated(segment) == number;
     if !allocated_to_it(own) {
         return false;
     }
-    if (1..=62).any(|other| allocated_to_it(other) && other != own && Some(other) != next) {
+    if (1..=SEGMENTS).any(|other| allocated_to_it(other) && other != own && Some(other) != next) {
         return false;
     }
     let next_is_its_own = next.is_some_and(allocated_to_it);

@@ -1,29 +1,28 @@
-//! The binary script of `run` and `replay` (docs/FORMATS.md): 32 words of 16 bits a call.
+//! The binary script of `run` and `replay` (docs/FORMATS.md): 32 items of 16 bits a call.
 
 use crate::area::Call;
-
-pub const WORDS: usize = 32;
+use crate::numbers::{ITEMS, MOST_WISHES};
 
 /// A call's record. Of more than 25 wishes the first 25 stand in it: a record has no more room.
-pub fn words_of(call: &Call) -> [u16; WORDS] {
-    let mut words = [0; WORDS];
+pub fn items_of(call: &Call) -> [u16; ITEMS] {
+    let mut items = [0; ITEMS];
     match *call {
-        Call::Enter { train, route, speed } => words[..4].copy_from_slice(&[1, train, route, speed]),
-        Call::Leave { train } => words[..2].copy_from_slice(&[2, train]),
+        Call::Enter { train, route, speed } => items[..4].copy_from_slice(&[1, train, route, speed]),
+        Call::Leave { train } => items[..2].copy_from_slice(&[2, train]),
         Call::Speed { wishes } => {
-            words[0] = 3;
-            words[6] = wishes.len().min(usize::from(u16::MAX)) as u16;
-            let kept = wishes.len().min(25);
-            words[7..7 + kept].copy_from_slice(&wishes[..kept]);
+            items[0] = 3;
+            items[6] = wishes.len().min(usize::from(u16::MAX)) as u16;
+            let kept = wishes.len().min(MOST_WISHES);
+            items[7..7 + kept].copy_from_slice(&wishes[..kept]);
         }
-        Call::Request => words[0] = 4,
-        Call::Grant => words[0] = 5,
-        Call::Position => words[0] = 6,
+        Call::Request => items[0] = 4,
+        Call::Grant => items[0] = 5,
+        Call::Position => items[0] = 6,
     }
-    words
+    items
 }
 
 /// A list's script.
 pub fn script_of(calls: &[Call]) -> Vec<u16> {
-    calls.iter().flat_map(words_of).collect()
+    calls.iter().flat_map(items_of).collect()
 }

@@ -4,6 +4,7 @@
 //! version and zeros) and the sound record ("Tables meet 4 to 10").
 
 use crate::braking::s;
+use crate::numbers::{LONGEST, ROUTES, ROUTE_SEGMENTS, SEGMENTS, TOP_SPEED};
 
 /// "flags (1 entry, 2 exit, sum of both)"
 pub const ENTRY: u8 = 1;
@@ -24,7 +25,7 @@ pub struct Segment {
 #[derive(Clone, Copy, PartialEq, Eq, Debug)]
 pub struct Route {
     pub count: u8,
-    pub numbers: [u8; 31],
+    pub numbers: [u8; ROUTE_SEGMENTS as usize],
 }
 
 #[derive(Clone, Copy, PartialEq, Eq, Debug)]
@@ -40,9 +41,9 @@ pub struct Tables {
     /// the end distance
     pub d: u32,
     /// segment number k at index k − 1
-    pub segments: [Segment; 62],
+    pub segments: [Segment; SEGMENTS as usize],
     /// route number k at index k − 1
-    pub routes: [Route; 30],
+    pub routes: [Route; ROUTES as usize],
 }
 
 impl Segment {
@@ -60,16 +61,17 @@ impl Segment {
 }
 
 impl Route {
-    pub const ZERO: Route = Route { count: 0, numbers: [0; 31] };
+    pub const ZERO: Route = Route { count: 0, numbers: [0; ROUTE_SEGMENTS as usize] };
 
     /// The segment numbers without the zeros after them. (A count above 31 breaks rule 10.)
     pub fn listed(&self) -> &[u8] {
-        &self.numbers[..usize::from(self.count.min(31))]
+        &self.numbers[..usize::from(self.count.min(ROUTE_SEGMENTS))]
     }
 }
 
 impl Tables {
-    pub const ZERO: Tables = Tables { n: 0, r: 0, gmax: 0, b: 0, d: 0, segments: [Segment::ZERO; 62], routes: [Route::ZERO; 30] };
+    pub const ZERO: Tables =
+        Tables { n: 0, r: 0, gmax: 0, b: 0, d: 0, segments: [Segment::ZERO; SEGMENTS as usize], routes: [Route::ZERO; ROUTES as usize] };
 
     /// Segment by number, 1 to 62.
     pub fn segment(&self, number: u8) -> &Segment {
@@ -84,11 +86,11 @@ impl Tables {
     /// 4 header: "segments N, 1 to 62"; "routes R, 1 to 30"; "`gmax`, 1 to 1000"; "`b`, 1 to
     /// `gmax`"; "`d`, 1 to 1,000,000".
     pub(crate) fn breaks_4(&self) -> bool {
-        !(1..=62).contains(&self.n)
-            || !(1..=30).contains(&self.r)
-            || !(1..=1000).contains(&self.gmax)
+        !(1..=SEGMENTS).contains(&self.n)
+            || !(1..=ROUTES).contains(&self.r)
+            || !(1..=TOP_SPEED).contains(&self.gmax)
             || !(1..=self.gmax).contains(&self.b)
-            || !(1..=1_000_000).contains(&self.d)
+            || !(1..=LONGEST).contains(&self.d)
     }
 
     /// 5 margin: "`d` < S(`gmax`)".
@@ -106,7 +108,7 @@ impl Tables {
         // "length not above `d` + `gmax` or over 1,000,000"
         let length = u64::from(segment.length);
         length <= u64::from(self.d) + u64::from(self.gmax)
-            || length > 1_000_000
+            || segment.length > LONGEST
             // "limit not 1 to `gmax`"
             || !(1..=self.gmax).contains(&segment.limit)
             // "link over N; a second link that is not 0 while the first is 0 or the same number"
@@ -149,7 +151,7 @@ impl Tables {
             return *route != Route::ZERO;
         }
         // "count outside 1 to 31"
-        !(1..=31).contains(&route.count)
+        !(1..=ROUTE_SEGMENTS).contains(&route.count)
             // "a number outside 1 to N"
             || route.listed().iter().any(|&segment| !(1..=self.n).contains(&segment))
             // "a step that is no next link"
@@ -164,10 +166,10 @@ impl Tables {
     pub fn meet_4_to_10(&self) -> bool {
         !self.breaks_4()
             && !self.breaks_5()
-            && !(1..=62).any(|number| self.breaks_6(number))
+            && !(1..=SEGMENTS).any(|number| self.breaks_6(number))
             && !(1..=self.n).any(|number| self.breaks_7(number))
             && !(1..=self.n).any(|number| self.breaks_8(number))
             && !(1..=self.n).any(|number| self.breaks_9(number))
-            && !(1..=30).any(|number| self.breaks_10(number))
+            && !(1..=ROUTES).any(|number| self.breaks_10(number))
     }
 }

@@ -1,7 +1,9 @@
 //! A writer of area files for tests: it writes what it is told, right or wrong, with right
 //! kinds, block numbers and checks.
 
-use crate::file::{check, route_start, segment_start, BLOCK_SIZE, FILE_SIZE, KINDS};
+use crate::area::{cycle, Call};
+use crate::file::{check, route_start, segment_start, KINDS};
+use crate::numbers::*;
 use crate::tables::{Segment, ENTRY, EXIT};
 
 /// N and R are the numbers of segments (at most 62) and routes (at most 30, of at most 31
@@ -23,39 +25,50 @@ impl Description {
 
     pub fn file(&self) -> Vec<u8> {
         let mut file = vec![0; FILE_SIZE];
-        file[0] = 1;
-        file[1] = self.segments.len() as u8;
-        file[2] = self.routes.len() as u8;
-        file[4..6].copy_from_slice(&self.gmax.to_le_bytes());
-        file[6..8].copy_from_slice(&self.b.to_le_bytes());
-        file[8..12].copy_from_slice(&self.d.to_le_bytes());
+        file[VERSION_AT] = 1;
+        file[N_AT] = self.segments.len() as u8;
+        file[R_AT] = self.routes.len() as u8;
+        put(&mut file, GMAX_AT, &self.gmax.to_le_bytes());
+        put(&mut file, B_AT, &self.b.to_le_bytes());
+        put(&mut file, D_AT, &self.d.to_le_bytes());
         for (number, segment) in (1..).zip(&self.segments) {
-            let record = &mut file[segment_start(number)..][..16];
-            record[0..4].copy_from_slice(&segment.length.to_le_bytes());
-            record[4..6].copy_from_slice(&segment.limit.to_le_bytes());
-            record[6..8].copy_from_slice(&segment.next);
-            record[8..10].copy_from_slice(&segment.previous);
-            record[10] = segment.flags;
+            let record = &mut file[segment_start(number)..][..SEGMENT_SIZE];
+            put(record, LENGTH_AT, &segment.length.to_le_bytes());
+            put(record, LIMIT_AT, &segment.limit.to_le_bytes());
+            put(record, NEXT_AT, &segment.next);
+            put(record, PREVIOUS_AT, &segment.previous);
+            record[FLAGS_AT] = segment.flags;
         }
         for (number, route) in (1..).zip(&self.routes) {
-            let record = &mut file[route_start(number)..][..32];
-            record[0] = route.len() as u8;
-            record[1..1 + route.len()].copy_from_slice(route);
+            put_route(&mut file, number, route);
         }
         for (number, block) in file.chunks_mut(BLOCK_SIZE).enumerate() {
-            block[496] = KINDS[number];
-            block[497] = number as u8;
+            block[KIND_AT] = KINDS[number];
+            block[BLOCK_NUMBER_AT] = number as u8;
         }
         put_checks(&mut file);
         file
     }
 }
 
+/// Puts bytes into a file or a record, from one of its places on.
+pub(crate) fn put(into: &mut [u8], at: usize, bytes: &[u8]) {
+    into[at..at + bytes.len()].copy_from_slice(bytes);
+}
+
+/// Puts a route's whole record into a file.
+pub(crate) fn put_route(file: &mut [u8], number: u8, route: &[u8]) {
+    let record = &mut file[route_start(number)..][..ROUTE_SIZE];
+    record.fill(0);
+    record[0] = route.len() as u8;
+    put(record, 1, route);
+}
+
 /// Puts the right check on each whole block.
 pub fn put_checks(file: &mut [u8]) {
     for block in file.chunks_exact_mut(BLOCK_SIZE) {
         let right = check(block);
-        block[510..512].copy_from_slice(&right);
+        put(block, CHECK_AT, &right);
     }
 }
 
@@ -75,12 +88,17 @@ pub fn area_a() -> Description {
     }
 }
 
+/// Document 01's program on Area A: "enters train 1 on route 1 at 250 and train 2 on route 2 at 200, runs six cycles with all wishes
+/// 300": the entries, and the steps of a cycle.
+pub const AREA_A_ENTRIES: [Call; 2] = [Call::Enter { train: 1, route: 1, speed: 250 }, Call::Enter { train: 2, route: 2, speed: 200 }];
+pub const AREA_A_CYCLE: [Call; 4] = cycle(&[300; WISHES]);
+
 /// An area with every segment and every route, 31 segments each: segment k leads to k + 1 and k + 2, route r runs from r on.
 pub fn full_area() -> Description {
-    let at = |number: i32| if (1..=62).contains(&number) { number as u8 } else { 0 };
-    let segments = (1..=62)
+    let at = |number: i32| if (1..=SEGMENTS.into()).contains(&number) { number as u8 } else { 0 };
+    let segments = (1..=SEGMENTS.into())
         .map(|k| Segment { length: 9000, limit: 290, next: [at(k + 1), at(k + 2)], previous: [at(k - 1), at(k - 2)], flags: ENTRY | EXIT })
         .collect();
-    let routes = (1..=30).map(|r| (r..r + 31).collect()).collect();
+    let routes = (1..=ROUTES).map(|r| (r..r + ROUTE_SEGMENTS).collect()).collect();
     Description { gmax: 300, b: 10, d: 4650, segments, routes }
 }

@@ -31,7 +31,9 @@ fn raw(description: &Description, due: u8, trains: &[(usize, RawTrain)], allocat
     record
 }
 
-const STEPS: [Call; 4] = [Call::Speed { wishes: &[300; 24] }, Call::Request, Call::Grant, Call::Position];
+/// The last train's number as an argument, and one that no train has.
+const LAST: u16 = TRAINS as u16;
+const ABOVE: u16 = LAST + 1;
 
 /// A refusal that leaves the area as it was.
 fn refused(area: &mut Area, call: Call, number: u8) {
@@ -48,8 +50,8 @@ fn unsound_11() {
     for record in [Record::BLANK, late] {
         assert!(!sound(&record));
         assert!(Area::from_record(&record).is_none());
-        let calls = [Call::Enter { train: 0, route: 1, speed: 1 }, Call::Leave { train: 25 }, Call::Speed { wishes: &[] }];
-        for call in calls.iter().chain(&STEPS) {
+        let calls = [Call::Enter { train: 0, route: 1, speed: 1 }, Call::Leave { train: ABOVE }, Call::Speed { wishes: &[] }];
+        for call in calls.iter().chain(&AREA_A_CYCLE) {
             assert_eq!(call_on(&record, call), (11, record));
         }
         assert_eq!(report_on(&record), (11, 0, 0));
@@ -60,7 +62,7 @@ fn unsound_11() {
 fn turn_12() {
     let mut area = a();
     for turn in 0..8 {
-        for (step, call) in STEPS.iter().enumerate() {
+        for (step, call) in AREA_A_CYCLE.iter().enumerate() {
             if step != turn % 4 {
                 refused(&mut area, *call, 12);
             }
@@ -69,7 +71,7 @@ fn turn_12() {
             // 12 comes before 21
             refused(&mut area, Call::Speed { wishes: &[] }, 12);
         }
-        assert_eq!(area.call(&STEPS[turn % 4]), 0);
+        assert_eq!(area.call(&AREA_A_CYCLE[turn % 4]), 0);
     }
 }
 
@@ -77,7 +79,7 @@ fn turn_12() {
 fn enter_13_14_16_17_18_19() {
     let enter = |train, route, speed| Call::Enter { train, route, speed };
     let mut area = Area::from_record(&raw(&longer(), SPEED, &[], &[])).unwrap();
-    for train in [0, 25, 256, 257, u16::MAX] {
+    for train in [0, ABOVE, 256, 257, u16::MAX] {
         refused(&mut area, enter(train, 0, 301), 13);
     }
     assert_eq!(area.enter(1, 1, 300), 0);
@@ -91,18 +93,18 @@ fn enter_13_14_16_17_18_19() {
     refused(&mut area, enter(2, 3, 301), 18);
     refused(&mut area, enter(2, 2, 291), 19);
     refused(&mut area, enter(2, 2, u16::MAX), 19);
-    assert_eq!(area.enter(24, 2, 290), 0);
+    assert_eq!(area.enter(LAST, 2, 290), 0);
     let record = area.record();
-    assert_eq!(record.trains[23], train(2, 1, 0, 290));
-    assert_eq!(record.allocations[..4], [1, 24, 0, 0]);
+    assert_eq!(*record.train(TRAINS), train(2, 1, 0, 290));
+    assert_eq!(record.allocations[..4], [1, TRAINS, 0, 0]);
 }
 
 #[test]
 fn leave_13_15_20() {
-    for number in [0, 25, 257] {
+    for number in [0, ABOVE, 257] {
         refused(&mut a(), Call::Leave { train: number }, 13);
     }
-    refused(&mut a(), Call::Leave { train: 24 }, 15);
+    refused(&mut a(), Call::Leave { train: LAST }, 15);
     let mut first = a();
     first.enter(1, 1, 0);
     refused(&mut first, Call::Leave { train: 1 }, 20);
@@ -122,14 +124,14 @@ fn leave_13_15_20() {
 
 #[test]
 fn wishes_21() {
-    for wishes in [&[][..], &[300; 23], &[300; 25], &[300; 280]] {
+    for wishes in [&[][..], &[300; WISHES - 1], &[300; WISHES + 1], &[300; WISHES + 256]] {
         refused(&mut a(), Call::Speed { wishes }, 21);
     }
 }
 
 /// The speed after a speed step.
 fn speed_after(record: &Record, wish: u16) -> u16 {
-    let mut wishes = [17; 24];
+    let mut wishes = [17; WISHES];
     wishes[4] = wish;
     let (number, back) = call_on(record, &Call::Speed { wishes: &wishes });
     assert_eq!((number, back.due), (0, REQUEST));
@@ -210,10 +212,10 @@ fn sound_record() {
         let mut record = base;
         change(&mut record);
         assert!(!sound(&record));
-        assert_eq!(call_on(&record, &Call::Speed { wishes: &[0; 24] }), (11, record));
+        assert_eq!(call_on(&record, &Call::Speed { wishes: &[0; WISHES] }), (11, record));
     };
     // tables
-    broken(&|r| r.tables.n = 63);
+    broken(&|r| r.tables.n = SEGMENTS + 1);
     broken(&|r| r.tables.r = 0);
     broken(&|r| r.tables.b = 0);
     broken(&|r| r.tables.gmax = u16::MAX);
@@ -238,7 +240,7 @@ fn sound_record() {
     broken(&|r| r.trains[23].asks = true);
     // allocations
     broken(&|r| r.allocations[3] = 3);
-    broken(&|r| r.allocations[3] = 25);
+    broken(&|r| r.allocations[3] = TRAINS + 1);
     broken(&|r| r.allocations[3] = 255);
     broken(&|r| r.allocations[4] = 1);
     broken(&|r| r.allocations[61] = 1);
@@ -293,10 +295,10 @@ fn sound_record() {
 fn sound_of_wild_records() {
     let wild = |byte: u8| {
         let wide = u32::from_le_bytes([byte; 4]);
-        let mut tables = decode_tables(&[byte; 2560]);
+        let mut tables = decode_tables(&[byte; FILE_SIZE]);
         let mut record = Record { tables, ..Record::BLANK };
-        record.allocations = [byte; 62];
-        record.trains = [RawTrain { route: byte, place: byte, position: wide, speed: wide as u16, asks: true }; 24];
+        record.allocations = [byte; SEGMENTS as usize];
+        record.trains = [RawTrain { route: byte, place: byte, position: wide, speed: wide as u16, asks: true }; TRAINS as usize];
         record.due = byte;
         assert!(!sound(&record));
         tables = decode_tables(&longer().file());

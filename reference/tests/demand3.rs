@@ -1,10 +1,8 @@
-//! The checker of demand 3: silent on runs of the calls, and shown to catch each sentence
-//! broken once.
+//! The checker of demand 3: silent on runs of the calls, and shown to catch each sentence broken once, in the order of "Whole runs"
+//! and of demand 3.
 
+use reference::random::{self, Owned, Random};
 use reference::*;
-
-const WISHES: [u16; 24] = [300; 24];
-const CYCLE: [Call; 4] = [Call::Speed { wishes: &WISHES }, Call::Request, Call::Grant, Call::Position];
 
 /// An area and the checker that is told its calls.
 #[derive(Clone)]
@@ -14,8 +12,8 @@ struct Run {
 }
 
 impl Run {
-    fn of(file: &[u8]) -> Run {
-        let area = load(file).unwrap();
+    fn of(description: &Description) -> Run {
+        let area = load(&description.file()).unwrap();
         Run { area, demand: Demand3::new(area.tables()) }
     }
 
@@ -24,29 +22,59 @@ impl Run {
         self.demand.tell(&call, answer, &self.area.record()).map(|_| answer)
     }
 
+    fn done(&mut self, calls: &[Call]) {
+        calls.iter().for_each(|&call| assert_eq!(self.call(call), Ok(0), "{call:?}"));
+    }
+
+    /// The step due, answered done.
+    fn step(&mut self) {
+        self.done(&[AREA_A_CYCLE[usize::from(self.area.record().due)]]);
+    }
+
     /// Area A with the two trains of the listing after some steps of its cycles.
     fn of_area_a(steps: usize) -> Run {
-        let mut run = Run::of(&area_a().file());
-        assert_eq!(run.call(Call::Enter { train: 1, route: 1, speed: 250 }), Ok(0));
-        assert_eq!(run.call(Call::Enter { train: 2, route: 2, speed: 200 }), Ok(0));
-        for step in 0..steps {
-            assert_eq!(run.call(CYCLE[step % 4]), Ok(0));
-        }
+        let mut run = Run::of(&area_a());
+        run.done(&AREA_A_ENTRIES);
+        (0..steps).for_each(|_| run.step());
         run
     }
 
-    /// What the checker says if the next step's record is doctored.
-    fn doctored(&self, change: impl Fn(&mut Record)) -> String {
+    /// Area A with train 1 alone.
+    fn of_train_1() -> Run {
+        let mut run = Run::of(&area_a());
+        run.done(&AREA_A_ENTRIES[..1]);
+        run
+    }
+
+    /// What the checker says of a call with this answer that hands back the area's record, doctored.
+    fn told(&mut self, call: Call, answer: u8, doctor: impl Fn(&mut Record)) -> Result<(), String> {
+        let mut record = self.area.record();
+        doctor(&mut record);
+        self.demand.tell(&call, answer, &record)
+    }
+
+    /// What it says if the next step's record is doctored; as it is, it is right.
+    fn doctored(&self, doctor: impl Fn(&mut Record)) -> Result<(), String> {
         let mut run = self.clone();
-        let call = CYCLE[usize::from(run.area.record().due)];
+        let call = AREA_A_CYCLE[usize::from(run.area.record().due)];
         assert_eq!(run.area.call(&call), 0);
-        let mut record = run.area.record();
-        assert_eq!(run.demand.clone().tell(&call, 0, &record), Ok(()));
-        change(&mut record);
-        run.demand.tell(&call, 0, &record).unwrap_err()
+        assert_eq!(run.clone().told(call, 0, |_| ()), Ok(()));
+        run.told(call, 0, doctor)
     }
 }
 
+fn says(verdict: Result<(), String>, words: &str) {
+    let sentence = verdict.unwrap_err();
+    assert!(sentence.contains(words), "{sentence}");
+}
+
+const fn standing(route: u8) -> RawTrain {
+    RawTrain { route, place: 1, position: 0, speed: 0, asks: false }
+}
+
+// ---- Whole runs
+
+/// "A list may be empty or of any length, with any arguments."
 #[test]
 fn six_cycles_and_on() {
     let mut run = Run::of_area_a(24);
@@ -58,9 +86,7 @@ fn six_cycles_and_on() {
     // train 2 goes to segment 3, leaves, and train 1 follows
     let mut left = 0;
     for _ in 0..80 {
-        for call in CYCLE {
-            assert_eq!(run.call(call), Ok(0));
-        }
+        run.done(&AREA_A_CYCLE);
         for train in [2, 1] {
             if run.call(Call::Leave { train }) == Ok(0) {
                 left += 1;
@@ -71,68 +97,129 @@ fn six_cycles_and_on() {
     assert_eq!(run.area.report(), (0, 0, 1));
 }
 
-fn says(sentence: String, words: &str) {
-    assert!(sentence.contains(words), "{sentence}");
+/// "It starts from the record of a load answered done: no allocations, no trains, speed due."
+#[test]
+fn catches_another_start() {
+    let run = Run::of(&area_a());
+    assert_eq!(run.clone().told(Call::Position, 12, |_| ()), Ok(()));
+    says(run.clone().told(Call::Position, 12, |r| r.allocations[0] = 1), "segment 1 is allocated to train 1, which is not on");
+    says(run.clone().told(Call::Position, 12, |r| r.trains[0] = standing(1)), "train 1 is off, but not in the record");
 }
 
+/// "Each call is handed the record that the one before handed back, after a refusal too."
 #[test]
-fn catches_answer_11() {
-    let mut run = Run::of_area_a(3);
-    let record = run.area.record();
-    says(run.demand.tell(&Call::Position, 11, &record).unwrap_err(), "11");
+fn goes_on_from_the_record_handed_back() {
+    // the position step's speed is the one that the refusal before it handed back
+    let mut run = Run::of_area_a(7);
+    assert_eq!(run.told(Call::Request, 12, |r| r.trains[0].speed = 299), Ok(()));
+    assert_eq!(run.area.call(&Call::Position), 0);
+    says(run.told(Call::Position, 0, |_| ()), "train 1 is at position 599, the record says 600");
 }
 
+/// "A train is on the area from an enter of it answered done until the next leave of it answered done."
 #[test]
-fn catches_two_trains_on_one_segment() {
-    // an enter onto train 1's segment answered done
+fn catches_trains_on() {
+    let run = Run::of_area_a(7);
+    says(run.doctored(|r| r.trains[0] = RawTrain::OFF), "train 1 is on, but not in the record");
+    says(run.doctored(|r| r.trains[4] = r.trains[0]), "train 5 is off, but not in the record");
+    // not from a refused enter, nor until a refused leave
+    let enter = Call::Enter { train: 5, route: 1, speed: 0 };
+    says(run.clone().told(enter, 18, |r| r.trains[4] = standing(1)), "train 5 is off, but not in the record");
+    says(run.clone().told(Call::Leave { train: 1 }, 20, |r| r.trains[0] = RawTrain::OFF), "train 1 is on, but not in the record");
+    // from the enter and until the leave answered done
+    let mut on = Run::of_area_a(7);
+    says(Run::of(&area_a()).told(AREA_A_ENTRIES[0], 0, |_| ()), "train 1 is on, but not in the record");
+    says(on.told(Call::Leave { train: 2 }, 0, |_| ()), "train 2 is off, but not in the record");
+}
+
+/// "Answers .. are those that the refusals and the calls above give".
+#[test]
+fn catches_answers_that_the_list_cannot_have() {
     let mut run = Run::of_area_a(4);
-    let mut record = run.area.record();
-    record.trains[2] = RawTrain { route: 1, place: 1, position: 0, speed: 0, asks: false };
-    let enter = Call::Enter { train: 3, route: 1, speed: 0 };
-    says(run.demand.tell(&enter, 0, &record).unwrap_err(), "trains 1 and 3 are on segment 1");
-}
-
-#[test]
-fn catches_own_segment_not_allocated() {
-    let run = Run::of_area_a(4);
-    says(run.doctored(|r| r.allocations[0] = 0), "segment 1 is not allocated to train 1 on it");
-    says(run.doctored(|r| r.allocations[0] = 2), "segment 1 is not allocated to train 1 on it");
-}
-
-#[test]
-fn catches_speed_above_limit() {
-    says(Run::of_area_a(4).doctored(|r| r.trains[1].speed = 291), "speed 291 above the limit 290");
-    says(Run::of_area_a(4).doctored(|r| r.trains[1].speed = u16::MAX), "above the limit 290");
-}
-
-#[test]
-fn catches_allocations() {
-    // to a train that is not on
-    let run = Run::of_area_a(4);
-    says(run.doctored(|r| r.allocations[2] = 3), "which is not on");
-    says(run.doctored(|r| r.allocations[2] = 255), "which is not on");
-    // neither own nor next
-    let mut left_free = Run::of(&area_a().file());
-    assert_eq!(left_free.call(Call::Enter { train: 1, route: 1, speed: 250 }), Ok(0));
-    says(left_free.doctored(|r| r.allocations[1] = 1), "neither its own nor its next");
-    says(left_free.doctored(|r| r.allocations[61] = 1), "neither its own nor its next");
-    // next, but allocated by no grant step
-    says(left_free.doctored(|r| r.allocations[2] = 1), "its next but never granted");
-    // a segment behind it, not freed
-    let mut run = Run::of_area_a(24);
-    while run.area.record().trains[1].place == 1 {
-        let before = run.clone();
-        for call in CYCLE {
-            assert_eq!(run.call(call), Ok(0));
-        }
-        if run.area.record().trains[1].place == 2 {
-            let mut before_position = before;
-            for call in &CYCLE[..3] {
-                assert_eq!(before_position.call(*call), Ok(0));
-            }
-            says(before_position.doctored(|r| r.allocations[1] = 2), "neither its own nor its next");
-        }
+    for call in [
+        Call::Enter { train: 1, route: 1, speed: 0 },
+        Call::Enter { train: 257, route: 1, speed: 0 },
+        Call::Enter { train: 3, route: 0, speed: 0 },
+        Call::Enter { train: 3, route: 3, speed: 0 },
+        Call::Leave { train: 0 },
+        Call::Leave { train: 3 },
+        Call::Leave { train: u16::from(TRAINS) + 1 },
+    ] {
+        says(run.told(call, 0, |_| ()), "answered done");
     }
+    says(run.told(Call::Position, 11, |_| ()), "11");
+}
+
+/// ".. the record handed back holds the same trains on, routes, step due, speeds and allocations."
+#[test]
+fn catches_routes() {
+    says(Run::of_area_a(7).doctored(|r| r.trains[0].route = 2), "train 1 is on route 1, the record says 2");
+}
+
+/// "A train's way is 0 at that enter and grows by its speed at each position step answered done."
+#[test]
+fn catches_ways() {
+    let entered = |r: &mut Record| (r.trains[0], r.allocations[0]) = (RawTrain { position: 1, ..standing(1) }, 1);
+    says(Run::of(&area_a()).told(AREA_A_ENTRIES[0], 0, entered), "train 1 is at position 0, the record says 1");
+    // a position step that moves nobody, by another speed, or refused
+    let mut run = Run::of_area_a(7);
+    let still = run.area.record().trains;
+    says(run.doctored(|r| r.trains = still), "train 1 is at position 600, the record says 300");
+    says(run.doctored(|r| r.trains[0].position += 1), "train 1 is at position 600, the record says 601");
+    says(run.told(Call::Position, 12, |r| r.trains[0].position = 600), "train 1 is at position 300, the record says 600");
+    // another step that moves a train
+    says(Run::of_area_a(4).doctored(|r| r.trains[0].position = 600), "train 1 is at position 300, the record says 600");
+}
+
+/// Train 1 alone after a position step that brings its way to 6000, the length of its first segment.
+fn at_the_length() -> Run {
+    let mut run = Run::of_train_1();
+    let with_wishes = |run: &mut Run, wish: u16| run.done(&cycle(&[wish; WISHES]));
+    // six cycles to 1500, near; one at 240 while it asks; then to the end
+    (0..7 + 16).for_each(|_| with_wishes(&mut run, 250));
+    with_wishes(&mut run, 260);
+    run
+}
+
+/// "Its own segment is the one of its route that starts at or before its way and ends beyond it, lengths summed from the route's
+/// start. It is on that segment and no other, and the limit there is that segment's. Its position is its way less that segment's
+/// start. The record's place and position are these."
+#[test]
+fn catches_places_and_positions() {
+    let run = Run::of_area_a(7);
+    says(run.doctored(|r| r.trains[0].place = 2), "train 1 is at place 1, the record says 2");
+    says(run.doctored(|r| r.trains[0].position = 0), "train 1 is at position 600, the record says 0");
+    // a way of just the first segment's length is on the second one
+    let mut run = at_the_length();
+    assert_eq!((run.area.record().trains[0].place, run.area.record().trains[0].position), (2, 0));
+    says(run.told(Call::Position, 12, |r| r.trains[0].place = 1), "train 1 is at place 2, the record says 1");
+    says(run.told(Call::Position, 12, |r| r.trains[0].position = 6000), "train 1 is at position 0, the record says 6000");
+    says(run.told(Call::Position, 12, |r| r.trains[0].speed = 291), "speed 291 above the limit 290");
+}
+
+#[test]
+fn catches_a_way_beyond_the_route() {
+    let mut run = Run::of_area_a(4);
+    says(run.told(AREA_A_CYCLE[0], 0, |r| r.trains[0].speed = 20_000), "above the limit");
+    says(run.told(AREA_A_CYCLE[3], 0, |_| ()), "train 1 has no own segment");
+}
+
+/// "A segment was granted next to it if it is its next and a grant step answered done since that enter allocated it to the train."
+#[test]
+fn catches_next_without_a_grant() {
+    // by another step than grant
+    says(Run::of_train_1().doctored(|r| r.allocations[2] = 1), "its next but never granted");
+    // by a grant step that is refused
+    says(Run::of_train_1().told(Call::Grant, 12, |r| r.allocations[2] = 1), "its next but never granted");
+    // by a step before the grant step, which leaves it as it is
+    let mut run = Run::of_train_1();
+    for call in [Call::Request, Call::Grant] {
+        says(run.told(call, 0, |r| r.allocations[2] = 1), "its next but never granted");
+    }
+    // by a grant step answered done
+    assert_eq!(Run::of_train_1().told(Call::Grant, 0, |r| r.allocations[2] = 1), Ok(()));
+    // to another train
+    says(Run::of_area_a(4).told(Call::Grant, 0, |r| r.allocations[1] = 1), "segment 2 is not allocated to train 2 on it");
 }
 
 /// What was granted before a leave was not granted since the new enter.
@@ -141,170 +228,105 @@ fn catches_a_grant_of_an_earlier_enter() {
     let mut description = area_a();
     description.segments[0].flags = ENTRY | EXIT;
     description.routes = vec![vec![1], vec![1, 3]];
-    let mut run = Run::of(&description.file());
-    assert_eq!(run.call(Call::Enter { train: 1, route: 2, speed: 300 }), Ok(0));
+    let mut run = Run::of(&description);
+    run.done(&[Call::Enter { train: 1, route: 2, speed: 300 }]);
     while run.area.record().allocations[2] == 0 {
-        let due = run.area.record().due;
-        assert_eq!(run.call(CYCLE[usize::from(due)]), Ok(0));
+        run.step();
     }
     // a leave and an enter told as done, segment 3 kept
-    let mut record = run.area.record();
-    let (leave, enter) = (Call::Leave { train: 1 }, Call::Enter { train: 1, route: 2, speed: 0 });
-    let on = record.trains[0];
-    record.trains[0] = RawTrain::OFF;
-    says(run.demand.tell(&leave, 0, &record).unwrap_err(), "which is not on");
-    record.trains[0] = RawTrain { place: 1, position: 0, ..on };
-    says(run.demand.tell(&enter, 0, &record).unwrap_err(), "never granted");
+    says(run.told(Call::Leave { train: 1 }, 0, |r| r.trains[0] = RawTrain::OFF), "which is not on");
+    let enter = Call::Enter { train: 1, route: 2, speed: 0 };
+    says(run.told(enter, 0, |r| r.trains[0] = standing(2)), "never granted");
 }
 
+/// "The way still to run is B(v) with speed due, S(v) with another step due."
+#[test]
+fn brakes_by_b_and_by_s() {
+    // train 1 is at 1790 of 6000, near and without a grant; speed is due after the position step: B(295) = 4205, B(296) = 4234
+    let with_speed_due = Run::of_area_a(23);
+    assert_eq!(with_speed_due.doctored(|r| r.trains[0].speed = 295), Ok(()));
+    says(with_speed_due.doctored(|r| r.trains[0].speed = 296), "1790 + 4234 is not less than 6000");
+    // request is due after the speed step: S(285) = 4205, S(286) = 4234
+    let with_another_due = Run::of_area_a(24);
+    assert_eq!(with_another_due.doctored(|r| r.trains[0].speed = 285), Ok(()));
+    says(with_another_due.doctored(|r| r.trains[0].speed = 286), "1790 + 4234 is not less than 6000");
+}
+
+/// ".. less than the summed lengths of its own segment and of those allocated to it that follow on its route without a gap."
+#[test]
+fn stops_within_what_is_allocated_only() {
+    // train 2's grant taken away
+    says(Run::of_area_a(54).doctored(|r| r.allocations[2] = 0), "train 2 does not stop within its segments");
+}
+
+// ---- Demand 3
+
+/// "no two trains are on one segment"
+#[test]
+fn catches_two_trains_on_one_segment() {
+    // an enter onto train 1's segment answered done
+    let enter = Call::Enter { train: 3, route: 1, speed: 0 };
+    says(Run::of_area_a(4).told(enter, 0, |r| r.trains[2] = standing(1)), "trains 1 and 3 are on segment 1");
+}
+
+/// "every segment that a train is on is allocated to it"
+#[test]
+fn catches_own_segment_not_allocated() {
+    let run = Run::of_area_a(4);
+    says(run.doctored(|r| r.allocations[0] = 0), "segment 1 is not allocated to train 1 on it");
+    says(run.doctored(|r| r.allocations[0] = 2), "segment 1 is not allocated to train 1 on it");
+}
+
+/// "and its speed isn't above the limit there"
+#[test]
+fn catches_speed_above_limit() {
+    let run = Run::of_area_a(4);
+    says(run.doctored(|r| r.trains[1].speed = 291), "speed 291 above the limit 290");
+    says(run.doctored(|r| r.trains[1].speed = u16::MAX), "above the limit 290");
+}
+
+/// "every allocated segment is one that its train is on or was granted next"
+#[test]
+fn catches_allocations() {
+    // to a train that is not on
+    let run = Run::of_area_a(4);
+    says(run.doctored(|r| r.allocations[2] = 3), "which is not on");
+    says(run.doctored(|r| r.allocations[2] = 255), "which is not on");
+    // neither own nor next
+    let run = Run::of_train_1();
+    says(run.doctored(|r| r.allocations[1] = 1), "neither its own nor its next");
+    says(run.doctored(|r| r.allocations[usize::from(SEGMENTS) - 1] = 1), "neither its own nor its next");
+    // a segment behind it, not freed
+    says(at_the_length().told(Call::Position, 12, |r| r.allocations[0] = 1), "neither its own nor its next");
+}
+
+/// "every train, braking fully from the next speed step on, stops within the segments then allocated to it"
 #[test]
 fn catches_not_stopping() {
     // after six cycles train 1 is near without a grant: it must brake
-    let run = Run::of_area_a(24);
-    says(run.doctored(|r| r.trains[0].speed = 300), "train 1 does not stop within its segments");
-    // S where the record says another step than speed is due: 1790 + S(285) = 1790 + 4205
-    // stops within 6000 by 5, and a record one decimetre of speed faster does not
-    says(run.doctored(|r| r.trains[0].speed = 286), "1790 + 4234 is not less than 6000");
-    // train 2's grant taken away
-    let mut run = Run::of_area_a(24);
-    for _ in 0..30 {
-        assert_eq!(run.call(CYCLE[usize::from(run.area.record().due)]), Ok(0));
-    }
-    says(run.doctored(|r| r.allocations[2] = 0), "train 2 does not stop within its segments");
-}
-
-#[test]
-fn catches_trains_routes_places_positions() {
-    let run = Run::of_area_a(7);
-    says(run.doctored(|r| r.trains[0] = RawTrain::OFF), "train 1 is on, but not in the record");
-    says(run.doctored(|r| r.trains[4] = r.trains[0]), "train 5 is off, but not in the record");
-    says(run.doctored(|r| r.trains[0].route = 2), "train 1 is on route 1, the record says 2");
-    says(run.doctored(|r| r.trains[0].place = 2), "train 1 is at place 1, the record says 2");
-    says(run.doctored(|r| r.trains[0].position += 1), "train 1 is at position 600, the record says 601");
-    // a position step that moves nobody
-    let still = run.area.record().trains;
-    says(run.doctored(|r| r.trains = still), "train 1 is at position 600, the record says 300");
-}
-
-#[test]
-fn catches_a_way_beyond_the_route() {
-    let mut run = Run::of_area_a(4);
-    let mut record = run.area.record();
-    record.trains[0].speed = 20_000;
-    says(run.demand.tell(&CYCLE[0], 0, &record).unwrap_err(), "above the limit");
-    says(run.demand.tell(&CYCLE[3], 0, &record).unwrap_err(), "train 1 has no own segment");
-}
-
-#[test]
-fn catches_answers_that_the_list_cannot_have() {
-    let run = Run::of_area_a(4);
-    let record = run.area.record();
-    for call in [
-        Call::Enter { train: 1, route: 1, speed: 0 },
-        Call::Enter { train: 257, route: 1, speed: 0 },
-        Call::Enter { train: 3, route: 3, speed: 0 },
-        Call::Leave { train: 3 },
-        Call::Leave { train: 25 },
-    ] {
-        says(run.demand.clone().tell(&call, 0, &record).unwrap_err(), "answered done");
-    }
-}
-
-/// A small source of numbers for runs.
-struct Source(u64);
-
-impl Source {
-    fn below(&mut self, bound: u64) -> u64 {
-        self.0 ^= self.0 << 13;
-        self.0 ^= self.0 >> 7;
-        self.0 ^= self.0 << 17;
-        (self.0 >> 11) % bound
-    }
-
-    fn between(&mut self, least: u64, most: u64) -> u64 {
-        least + self.below(most - least + 1)
-    }
-}
-
-/// Any file that load accepts, of segments not much longer than they must be.
-fn any_area(source: &mut Source) -> Description {
-    let n = source.between(1, 62) as usize;
-    let gmax = source.between(1, 1000);
-    let b = source.between(1 + gmax / 20, 1 + gmax / 3).min(gmax);
-    let d = s(b as u32, gmax as u32) + source.below(1 + gmax);
-    let mut segments = vec![Segment::ZERO; n];
-    for _ in 0..4 * n {
-        let from = source.between(1, n as u64) as usize;
-        let to = from + source.between(1, 6) as usize;
-        if to > n || segments[from - 1].next.contains(&(to as u8)) {
-            continue;
-        }
-        let next_free = segments[from - 1].next.iter().position(|&link| link == 0);
-        let previous_free = segments[to - 1].previous.iter().position(|&link| link == 0);
-        if let (Some(next), Some(previous)) = (next_free, previous_free) {
-            segments[from - 1].next[next] = to as u8;
-            segments[to - 1].previous[previous] = from as u8;
-        }
-    }
-    for index in (0..n).rev() {
-        let links: Vec<u8> = segments[index].next_links().collect();
-        let lowest = links.iter().map(|&next| u64::from(segments[usize::from(next) - 1].limit)).min();
-        let most = lowest.map_or(gmax, |limit| gmax.min(limit + b));
-        segments[index].limit = source.between(most.min(1 + most / 2), most) as u16;
-        segments[index].length = (d + gmax + source.between(1, 3 * gmax)) as u32;
-        segments[index].flags = [3, 3, 3, 3, 3, 1, 2, 0][source.below(8) as usize];
-    }
-    let routes = (0..source.between(1, 30))
-        .map(|_| {
-            let mut route = vec![source.between(1, n as u64) as u8];
-            while route.len() < 31 {
-                let links: Vec<u8> = segments[usize::from(route[route.len() - 1]) - 1].next_links().collect();
-                if links.is_empty() || source.below(12) == 0 {
-                    break;
-                }
-                route.push(links[source.below(links.len() as u64) as usize]);
-            }
-            route
-        })
-        .collect();
-    Description { gmax: gmax as u16, b: b as u16, d: d as u32, segments, routes }
+    says(Run::of_area_a(24).doctored(|r| r.trains[0].speed = 300), "train 1 does not stop within its segments");
 }
 
 /// Lists of calls in any order from many areas: demand 3 holds, the record stays sound, and the
 /// running area and a call on its raw record agree.
 #[test]
 fn many_runs() {
-    let mut source = Source(0x5eed_0123_4567_89ab);
+    let mut random = Random::new(15);
     let (mut moved_on, mut left) = (0, 0);
-    for _ in 0..150 {
-        let description = any_area(&mut source);
-        let mut run = Run::of(&description.file());
+    for k in 0..150 {
+        let description = random::area(&mut random, k % 4 != 0);
+        let mut run = Run::of(&description);
         for _ in 0..1000 {
             let before = run.area.record();
-            let wishes: Vec<u16> = (0..24 + source.below(60) / 59)
-                .map(|_| match source.below(3) {
-                    0 => source.below(u64::from(description.gmax) + 2) as u16,
-                    _ => u16::MAX,
-                })
-                .collect();
-            let call = match source.below(12) {
-                0 => Call::Enter {
-                    train: source.below(26) as u16,
-                    route: source.below(description.routes.len() as u64 + 2) as u16,
-                    speed: source.below(u64::from(description.gmax) + 1) as u16,
-                },
-                1 => Call::Leave { train: source.below(26) as u16 },
-                2 => [Call::Speed { wishes: &wishes }, CYCLE[1], CYCLE[2], CYCLE[3]][source.below(4) as usize],
-                _ => [Call::Speed { wishes: &wishes }, CYCLE[1], CYCLE[2], CYCLE[3]][usize::from(before.due)],
-            };
-            let answer = run.call(call).unwrap();
+            let owned = random::call(&mut random, &description, before.due);
+            let answer = run.call(owned.call()).unwrap();
             let after = run.area.record();
             assert!(sound(&after));
-            assert_eq!(call_on(&before, &call), (answer, after));
+            assert_eq!(call_on(&before, &owned.call()), (answer, after));
             if answer != 0 {
                 assert_eq!(before, after);
             }
-            left += usize::from(answer == 0 && matches!(call, Call::Leave { .. }));
+            left += usize::from(answer == 0 && matches!(owned, Owned::Leave(_)));
             moved_on += before.trains.iter().zip(&after.trains).filter(|(was, is)| was.route != 0 && was.place < is.place).count();
         }
     }

@@ -3,7 +3,7 @@
 use reference::breaks::{from_rule, Where, BREAKS, PLACES};
 use reference::edges::{record_at, sound_record, EDGES};
 use reference::random::{area, Random};
-use reference::{check, decode_tables, load, put_checks, sound, Description, Refusal};
+use reference::*;
 
 #[test]
 fn areas_made_to_meet_the_rules_are_accepted() {
@@ -27,8 +27,7 @@ fn each_break_alone_is_answered_with_its_rule() {
                     if one.rule > 2 {
                         put_checks(&mut file);
                     }
-                    let answer = load(&file).err().map(|refusal| refusal.number);
-                    assert_eq!(answer, Some(one.rule), "{}, {place:?}: {made:?}", one.name);
+                    assert_eq!(answer_of(&file).0, one.rule, "{}, {place:?}: {made:?}", one.name);
                     hit[at] += 1;
                 }
             }
@@ -56,7 +55,7 @@ fn broken(random: &mut Random, made: &Description, name: &str, place: Where) -> 
 
 fn answer(mut file: Vec<u8>) -> (u8, u16) {
     put_checks(&mut file);
-    load(&file).map_or_else(|refusal| (refusal.number, refusal.place), |_| (0, 0))
+    answer_of(&file)
 }
 
 #[test]
@@ -78,10 +77,10 @@ fn bounds_of_d() {
     let made = area(&mut random, true);
     let mut at = |name: &str, place: Where| {
         let file = broken(&mut random, &made, name, place).unwrap();
-        (u32::from_le_bytes(file[8..12].try_into().unwrap()), answer(file))
+        (u32::from_le_bytes(file[D_AT..D_AT + 4].try_into().unwrap()), answer(file))
     };
-    assert_eq!(at("d up to 1,000,000", Where::Last), (1_000_000, (6, 1)));
-    assert_eq!(at("d 0, 1,000,001, the greatest number", Where::Middle), (1_000_001, (4, 0)));
+    assert_eq!(at("d up to 1,000,000", Where::Last), (LONGEST, (6, 1)));
+    assert_eq!(at("d 0, 1,000,001, the greatest number", Where::Middle), (LONGEST + 1, (4, 0)));
 }
 
 /// Only the stored check is wrong with these: with it set right, a later rule speaks.
@@ -93,9 +92,10 @@ fn sums_of_0_stored_as_255() {
         for (sum, name) in ["first sum of 0 stored as 255", "second sum of 0 stored as 255"].into_iter().enumerate() {
             for (place, blocks) in PLACES.into_iter().zip([0..1, 1..4, 4..5]) {
                 let file = broken(&mut random, &made, name, place).unwrap();
-                let number = blocks.clone().find(|number| file[512 * number + 510 + sum] == 255).expect("a block of that place");
-                assert_eq!(check(&file[512 * number..][..512])[sum], 0);
-                assert_eq!(load(&file).unwrap_err(), Refusal { number: 2, place: number as u16 });
+                let number =
+                    blocks.clone().find(|number| file[BLOCK_SIZE * number + CHECK_AT + sum] == 255).expect("a block of that place");
+                assert_eq!(check(&file[BLOCK_SIZE * number..][..BLOCK_SIZE])[sum], 0);
+                assert_eq!(answer_of(&file), (2, number as u16));
                 assert_eq!(answer(file).0, 3);
             }
         }
@@ -136,7 +136,7 @@ fn records_made_to_be_sound_are_sound() {
         assert!(sound(&record), "{record:?}");
         most = most.max(record.trains.iter().filter(|train| train.is_on()).count());
     }
-    assert_eq!(most, 24);
+    assert_eq!(most, TRAINS.into());
 }
 
 #[test]

@@ -2,6 +2,25 @@
 
 use reference::*;
 
+/// The numbers as the paper writes them, and how they hang together.
+#[test]
+fn numbers_of_the_paper() {
+    assert_eq!((SEGMENTS, ROUTES, ROUTE_SEGMENTS, TRAINS, WISHES), (62, 30, 31, 24, 24));
+    assert_eq!((TOP_SPEED, LONGEST), (1000, 1_000_000));
+    assert_eq!((BLOCKS, BLOCK_SIZE, FILE_SIZE), (5, 512, 2560));
+    assert_eq!(FILE_SIZE, BLOCKS * BLOCK_SIZE);
+    // two blocks of segments, two of routes
+    assert_eq!((SEGMENTS_A_BLOCK, SEGMENT_SIZE), (usize::from(SEGMENTS) / 2, KIND_AT / SEGMENTS_A_BLOCK));
+    assert_eq!((ROUTES_A_BLOCK, ROUTE_SIZE), (usize::from(ROUTES) / 2, ROUTE_BLOCK_ZEROS.start / ROUTES_A_BLOCK));
+    assert_eq!((ROUTE_BLOCK_ZEROS.end, HEADER_ZEROS.end), (KIND_AT, KIND_AT));
+    assert_eq!((TAIL_ZEROS.start, TAIL_ZEROS.end, CHECK_AT + 2), (BLOCK_NUMBER_AT + 1, CHECK_AT, BLOCK_SIZE));
+    assert_eq!((SEGMENT_ZEROS, ROUTE_SIZE), (FLAGS_AT + 1..SEGMENT_SIZE, 1 + usize::from(ROUTE_SEGMENTS)));
+    // docs/FORMATS.md
+    assert_eq!((ITEMS, MOST_WISHES), (32, ITEMS - 7));
+    assert_eq!(STATE_SIZE, STATE_TRAINS_AT + STATE_TRAIN_SIZE * usize::from(TRAINS));
+    assert_eq!((STATE_SIZE, STATE_ALLOCATIONS.len()), (832, usize::from(SEGMENTS)));
+}
+
 #[test]
 fn certain_values_of_s_and_b() {
     for (b, v, way) in
@@ -15,8 +34,8 @@ fn certain_values_of_s_and_b() {
 /// "v + (v − b) + (v − 2b) + .. while the terms are positive", term by term.
 #[test]
 fn s_is_the_sum_of_its_terms() {
-    for b in 1..=1001 {
-        for v in 0..=1000 {
+    for b in 1..=u32::from(TOP_SPEED) + 1 {
+        for v in 0..=u32::from(TOP_SPEED) {
             let (mut sum, mut term) = (0, i64::from(v));
             while term > 0 {
                 sum += term as u64;
@@ -35,15 +54,13 @@ fn s_is_the_sum_of_its_terms() {
 /// position, speed".
 fn listing(file: &[u8]) -> String {
     let mut area = load(file).expect("accepted");
-    assert_eq!(area.enter(1, 1, 250), 0);
-    assert_eq!(area.enter(2, 2, 200), 0);
+    assert_eq!(AREA_A_ENTRIES.map(|call| area.call(&call)), [0, 0]);
     let mut lines = String::from("cycle train segment position speed\n");
     for cycle in 1..=6 {
-        assert_eq!((area.speed(&[300; 24]), area.request(), area.grant(), area.position()), (0, 0, 0, 0));
+        assert_eq!(AREA_A_CYCLE.map(|call| area.call(&call)), [0, 0, 0, 0]);
         let record = area.record();
         for (number, train) in (1..).zip(&record.trains).filter(|(_, train)| train.is_on()) {
-            let segment = record.tables.route(train.route).listed()[usize::from(train.place) - 1];
-            lines += &format!("{cycle} {number} {segment} {} {}\n", train.position, train.speed);
+            lines += &format!("{cycle} {number} {} {} {}\n", train.own(&record.tables), train.position, train.speed);
         }
     }
     lines
@@ -81,7 +98,7 @@ fn loaded_area() {
 }
 
 fn refused(description: &Description) -> (u8, u16) {
-    load(&description.file()).map_or_else(|refusal| (refusal.number, refusal.place), |_| (0, 0))
+    answer_of(&description.file())
 }
 
 /// "`d` 4649 is 5. Length 4950 is 6, 4951 passes. Limit 289 on segment 3 is 9."
@@ -124,17 +141,20 @@ fn edge_of_the_position_step() {
 fn route_views() {
     let mut a = area_a();
     let file = a.file();
-    assert_eq!((route_view(&file, 1), route_view_start(&file, 1)), (&[1, 3][..], 3 * 512 + 1));
-    assert_eq!((route_view(&file, 2), route_view_start(&file, 2)), (&[2, 3][..], 3 * 512 + 33));
-    assert_eq!(route_view(&file, 2).as_ptr(), file[3 * 512 + 33..].as_ptr());
+    assert_eq!((route_view(&file, 1), route_view_start(&file, 1)), (&[1, 3][..], 3 * BLOCK_SIZE + 1));
+    assert_eq!((route_view(&file, 2), route_view_start(&file, 2)), (&[2, 3][..], 3 * BLOCK_SIZE + ROUTE_SIZE + 1));
+    assert_eq!(route_view(&file, 2).as_ptr(), file[3 * BLOCK_SIZE + ROUTE_SIZE + 1..].as_ptr());
     for route in [0, 3, 257, 258, u16::MAX] {
         assert_eq!((route_view(&file, route), route_view_start(&file, route)), (&[][..], 0));
     }
-    a.routes = vec![vec![3]; 30];
+    a.routes = vec![vec![3]; ROUTES.into()];
     let file = a.file();
-    assert_eq!((route_view(&file, 15), route_view_start(&file, 15)), (&[3][..], 3 * 512 + 14 * 32 + 1));
-    assert_eq!((route_view(&file, 16), route_view_start(&file, 16)), (&[3][..], 4 * 512 + 1));
-    assert_eq!((route_view(&file, 30), route_view_start(&file, 30)), (&[3][..], 4 * 512 + 14 * 32 + 1));
+    assert_eq!((route_view(&file, 15), route_view_start(&file, 15)), (&[3][..], 3 * BLOCK_SIZE + 14 * ROUTE_SIZE + 1));
+    assert_eq!((route_view(&file, 16), route_view_start(&file, 16)), (&[3][..], 4 * BLOCK_SIZE + 1));
+    assert_eq!(
+        (route_view(&file, ROUTES.into()), route_view_start(&file, ROUTES.into())),
+        (&[3][..], 4 * BLOCK_SIZE + 14 * ROUTE_SIZE + 1)
+    );
     // empty "when load refuses the file"
     let mut damaged = file.clone();
     damaged[100] ^= 1;

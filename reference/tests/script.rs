@@ -1,5 +1,6 @@
 //! The maker of scripts, run as a command.
 
+use reference::ITEMS;
 use std::io::Write;
 use std::process::{Command, Stdio};
 
@@ -13,8 +14,8 @@ fn kinds(text: &str) -> Result<Vec<u16>, String> {
         assert!(output.stdout.is_empty());
         return Err(String::from_utf8(output.stderr).unwrap());
     }
-    assert_eq!(output.stdout.len() % 64, 0);
-    Ok(output.stdout.chunks(64).map(|record| u16::from_le_bytes([record[0], record[1]])).collect())
+    assert_eq!(output.stdout.len() % (2 * ITEMS), 0);
+    Ok(output.stdout.chunks(2 * ITEMS).map(|record| u16::from_le_bytes([record[0], record[1]])).collect())
 }
 
 fn says(text: &str, words: &str) {

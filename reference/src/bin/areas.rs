@@ -5,7 +5,8 @@
 //!     areas entries       writes, for each file on which `area_a` is refused an entry, its name and the line that it must print
 //!
 //! Each file is Area A of document 01 with one thing changed, but for `full`, which has every segment and every route.
-use reference::{area_a, full_area, put_checks, Description};
+use reference::file::{route_start, segment_start};
+use reference::*;
 use std::io::Write;
 
 fn planned(change: impl Fn(&mut Description)) -> Vec<u8> {
@@ -37,18 +38,18 @@ fn files() -> Vec<(&'static str, Vec<u8>, &'static str)> {
     let a = area_a().file();
     let mut longer = a.clone();
     longer.push(0);
-    let mut two_wrong = patched(496, 9);
-    two_wrong[2048 + 510] ^= 1;
+    let mut two_wrong = patched(KIND_AT, 9);
+    two_wrong[4 * BLOCK_SIZE + CHECK_AT] ^= 1;
     let mut zero_then_length = area_a().file();
-    zero_then_length[512 + 11] = 1;
-    zero_then_length[512 + 16..512 + 20].copy_from_slice(&4950u32.to_le_bytes());
+    zero_then_length[segment_start(1) + SEGMENT_ZEROS.start] = 1;
+    zero_then_length[segment_start(2)..][..4].copy_from_slice(&4950u32.to_le_bytes());
     let mut length_then_zero = area_a().file();
-    length_then_zero[512..516].copy_from_slice(&4950u32.to_le_bytes());
-    length_then_zero[512 + 16 + 11] = 1;
+    length_then_zero[segment_start(1)..][..4].copy_from_slice(&4950u32.to_le_bytes());
+    length_then_zero[segment_start(2) + SEGMENT_ZEROS.start] = 1;
     // a block whose first sum comes to 255, which is 0, and is stored as 255
-    let mut stored_255 = patched(1024 + 100, 251);
-    assert_eq!(stored_255[1024 + 510], 0);
-    stored_255[1024 + 510] = 255;
+    let mut stored_255 = patched(2 * BLOCK_SIZE + 100, 251);
+    assert_eq!(stored_255[2 * BLOCK_SIZE + CHECK_AT], 0);
+    stored_255[2 * BLOCK_SIZE + CHECK_AT] = 255;
     vec![
         ("area_a", a.clone(), "0 0 done/segments 3 routes 2"),
         ("full", full_area().file(), "0 0 done/segments 62 routes 30"),
@@ -57,40 +58,40 @@ fn files() -> Vec<(&'static str, Vec<u8>, &'static str)> {
         ("limit_249", planned(|p| p.segments[0].limit = 249), "0 0 done/segments 3 routes 2"),
         ("single_route", planned(|p| p.routes.truncate(1)), "0 0 done/segments 3 routes 1"),
         ("empty", vec![], "1 0 size"),
-        ("shorter", a[..2559].to_vec(), "1 0 size"),
+        ("shorter", a[..FILE_SIZE - 1].to_vec(), "1 0 size"),
         ("longer", longer, "1 0 size"),
         ("byte_600", damaged(600, 1), "2 1 damaged"),
-        ("second_sum", damaged(511, a[511] ^ 1), "2 0 damaged"),
+        ("second_sum", damaged(CHECK_AT + 1, a[CHECK_AT + 1] ^ 1), "2 0 damaged"),
         ("check_stored_as_255", stored_255, "2 2 damaged"),
         ("kind_and_check", two_wrong, "2 4 damaged"),
-        ("kind", patched(496, 9), "3 0 misfiled"),
-        ("block_number", patched(2048 + 497, 3), "3 4 misfiled"),
-        ("tail_zero", patched(512 + 509, 1), "3 1 misfiled"),
-        ("route_block_zero", patched(1536 + 480, 1), "3 3 misfiled"),
-        ("version", patched(0, 2), "4 0 header"),
-        ("header_byte_3", patched(3, 1), "4 0 header"),
-        ("header_zero", patched(495, 1), "4 0 header"),
-        ("no_segments", patched(1, 0), "4 0 header"),
-        ("segments_63", patched(1, 63), "4 0 header"),
-        ("no_routes", patched(2, 0), "4 0 header"),
-        ("routes_31", patched(2, 31), "4 0 header"),
-        ("gmax_1001", planned(|p| p.gmax = 1001), "4 0 header"),
+        ("kind", patched(KIND_AT, 9), "3 0 misfiled"),
+        ("block_number", patched(4 * BLOCK_SIZE + BLOCK_NUMBER_AT, 3), "3 4 misfiled"),
+        ("tail_zero", patched(BLOCK_SIZE + TAIL_ZEROS.end - 1, 1), "3 1 misfiled"),
+        ("route_block_zero", patched(3 * BLOCK_SIZE + ROUTE_BLOCK_ZEROS.start, 1), "3 3 misfiled"),
+        ("version", patched(VERSION_AT, 2), "4 0 header"),
+        ("header_byte_3", patched(ZERO_AT, 1), "4 0 header"),
+        ("header_zero", patched(HEADER_ZEROS.end - 1, 1), "4 0 header"),
+        ("no_segments", patched(N_AT, 0), "4 0 header"),
+        ("segments_63", patched(N_AT, SEGMENTS + 1), "4 0 header"),
+        ("no_routes", patched(R_AT, 0), "4 0 header"),
+        ("routes_31", patched(R_AT, ROUTES + 1), "4 0 header"),
+        ("gmax_1001", planned(|p| p.gmax = TOP_SPEED + 1), "4 0 header"),
         ("no_braking", planned(|p| p.b = 0), "4 0 header"),
         ("braking_301", planned(|p| p.b = 301), "4 0 header"),
-        ("margin_1000001", planned(|p| p.d = 1_000_001), "4 0 header"),
+        ("margin_1000001", planned(|p| p.d = LONGEST + 1), "4 0 header"),
         ("margin_4649", planned(|p| p.d = 4649), "5 0 margin"),
-        ("two_segments", patched(1, 2), "6 1 segment"),
+        ("two_segments", patched(N_AT, 2), "6 1 segment"),
         ("length_4950", planned(|p| p.segments[1].length = 4950), "6 2 segment"),
         ("length_4951", planned(|p| p.segments[1].length = 4951), "0 0 done/segments 3 routes 2"),
-        ("length_1000000", planned(|p| p.segments[2].length = 1_000_000), "0 0 done/segments 3 routes 2"),
-        ("length_1000001", planned(|p| p.segments[2].length = 1_000_001), "6 3 segment"),
+        ("length_1000000", planned(|p| p.segments[2].length = LONGEST), "0 0 done/segments 3 routes 2"),
+        ("length_1000001", planned(|p| p.segments[2].length = LONGEST + 1), "6 3 segment"),
         ("limit_0", planned(|p| p.segments[0].limit = 0), "6 1 segment"),
         ("limit_301", planned(|p| p.segments[0].limit = 301), "6 1 segment"),
         ("link_4", planned(|p| p.segments[2].next = [4, 0]), "6 3 segment"),
         ("same_links", planned(|p| p.segments[2].previous = [1, 1]), "6 3 segment"),
         ("second_link_alone", planned(|p| p.segments[2].previous = [0, 2]), "6 3 segment"),
         ("flags_4", planned(|p| p.segments[2].flags = 4), "6 3 segment"),
-        ("record_62", patched(1024 + 16 * 30 + 10, 1), "6 62 segment"),
+        ("record_62", patched(segment_start(SEGMENTS) + FLAGS_AT, 1), "6 62 segment"),
         ("zero_then_length", sealed(zero_then_length), "6 1 segment"),
         ("length_then_zero", sealed(length_then_zero), "6 1 segment"),
         ("previous_missing", planned(|p| p.segments[2].previous = [2, 0]), "7 1 joint"),
@@ -112,13 +113,13 @@ fn files() -> Vec<(&'static str, Vec<u8>, &'static str)> {
             "8 1 order",
         ),
         ("limit_289", planned(|p| p.segments[2].limit = 289), "9 1 drop"),
-        ("one_route", patched(2, 1), "10 2 route"),
+        ("one_route", patched(R_AT, 1), "10 2 route"),
         ("route_backwards", planned(|p| p.routes[1] = vec![3, 2]), "10 2 route"),
         ("route_number_4", planned(|p| p.routes[1] = vec![2, 4]), "10 2 route"),
         ("route_number_0", planned(|p| p.routes[0] = vec![0, 3]), "10 1 route"),
         ("route_count_0", planned(|p| p.routes[1] = vec![]), "10 2 route"),
-        ("route_count_32", patched(1536, 32), "10 1 route"),
-        ("route_30_last_byte", patched(2048 + 32 * 14 + 31, 1), "10 30 route"),
+        ("route_count_32", patched(route_start(1), ROUTE_SEGMENTS + 1), "10 1 route"),
+        ("route_30_last_byte", patched(route_start(ROUTES) + ROUTE_SIZE - 1, 1), "10 30 route"),
     ]
 }
 

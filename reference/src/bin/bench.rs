@@ -1,8 +1,7 @@
 //! The core and the second program on the same inputs, in one process: microseconds each and the ratio core / second program.
 //! Both test the whole record at every call. In the replays the buffers for answers and state are not cleared between runs; for a
 //! single call the state is copied anew before each run, with and without the call.
-use reference::script::{script_of, words_of};
-use reference::unit::{self, STATE_SIZE};
+use reference::script::{items_of, script_of};
 use reference::*;
 use std::hint::black_box;
 use std::time::Instant;
@@ -46,7 +45,7 @@ fn loads(name: &str, file: &[u8]) {
 
 /// One call on a record, less what handing the record over takes.
 fn one_call(name: &str, file: &[u8], area: &Area, call: &Call) -> (f64, f64) {
-    let script = words_of(call);
+    let script = items_of(call);
     let before = unit::state_of(&area.record());
     let core_run = |script: &[u16]| {
         let (mut answer, mut state) = ([0], before);
@@ -75,9 +74,8 @@ fn at_the_last(area: &Area, number: u8) -> Area {
     let mut record = area.record();
     record.allocations.iter_mut().filter(|train| **train == number).for_each(|train| *train = 0);
     let train = &mut record.trains[usize::from(number) - 1];
-    let route = record.tables.route(train.route);
-    (train.place, train.position, train.speed) = (route.count, 0, 0);
-    record.allocations[usize::from(route.listed()[usize::from(route.count) - 1]) - 1] = number;
+    (train.place, train.position, train.speed) = (record.tables.route(train.route).count, 0, 0);
+    record.allocations[usize::from(train.own(&record.tables)) - 1] = number;
     Area::from_record(&record).expect("the record is sound")
 }
 
@@ -86,15 +84,12 @@ fn calls(name: &str, description: &Description, trains: u16) {
     let file = description.file();
     let mut area = load(&file).expect("the area is accepted");
     (1..=trains).for_each(|t| assert_eq!(area.enter(t, t, 200), 0));
-    let wishes = [300; 24];
-    let cycle =
-        [("speed", Call::Speed { wishes: &wishes }), ("request", Call::Request), ("grant", Call::Grant), ("position", Call::Position)];
     // far enough that trains ask and are granted
     for _ in 0..15 {
-        cycle.iter().for_each(|(_, call)| assert_eq!(area.call(call), 0));
+        AREA_A_CYCLE.iter().for_each(|call| assert_eq!(area.call(call), 0));
     }
     let mut times = vec![];
-    for (step, call) in &cycle {
+    for (step, call) in ["speed", "request", "grant", "position"].into_iter().zip(&AREA_A_CYCLE) {
         times.push(one_call(&format!("{step}, {name}"), &file, &area, call));
         area.call(call);
     }
@@ -109,10 +104,9 @@ fn calls(name: &str, description: &Description, trains: u16) {
 
 fn replay(name: &str, description: &Description, trains: u16) {
     let file = description.file();
-    let wishes = [300; 24];
     let mut calls: Vec<Call> = (1..=trains).map(|t| Call::Enter { train: t, route: t, speed: 200 }).collect();
     for _ in 0..200 {
-        calls.extend([Call::Speed { wishes: &wishes }, Call::Request, Call::Grant, Call::Position]);
+        calls.extend(AREA_A_CYCLE);
     }
     let script = script_of(&calls);
     let mut answers = vec![0; calls.len()];
@@ -136,7 +130,7 @@ fn main() {
     loads("Area A", &area_a().file());
     loads("full area", &full_area().file());
     calls("Area A", &area_a(), 2);
-    calls("full area", &full_area(), 24);
+    calls("full area", &full_area(), TRAINS.into());
     replay("Area A", &area_a(), 2);
-    replay("full area", &full_area(), 24);
+    replay("full area", &full_area(), TRAINS.into());
 }

@@ -6,17 +6,9 @@
 //! `speed WISH` for all 24 trains, `speed WISH WISH ..` with just these wishes, `request`, `grant`, `position`, and `cycle WISH`
 //! for the four steps of a cycle. Where a line cannot be read, nothing is written. A line ends with a line feed, a carriage return,
 //! or both.
-use reference::script::{words_of, WORDS};
-use reference::Call;
+use reference::script::script_of;
+use reference::{cycle, Call, MOST_WISHES, WISHES};
 use std::io::{Read, Write};
-
-const MOST_WISHES: usize = 25;
-
-type Record = [u16; WORDS];
-
-fn speed(wishes: &[u16]) -> Record {
-    words_of(&Call::Speed { wishes })
-}
 
 fn number(text: &str) -> Result<u16, String> {
     // a sign is no part of a number, though the library would read one
@@ -42,8 +34,8 @@ fn counted(numbers: usize) -> String {
     }
 }
 
-/// The calls of one line.
-fn calls(line: &str) -> Result<Vec<Record>, String> {
+/// The items of one line's calls.
+fn items(line: &str) -> Result<Vec<u16>, String> {
     let text = line.split('#').next().unwrap_or("");
     let mut parts = text.split_whitespace();
     let Some(call) = parts.next() else { return Ok(vec![]) };
@@ -54,41 +46,43 @@ fn calls(line: &str) -> Result<Vec<Record>, String> {
     Ok(match call {
         "enter" => {
             let [train, route, speed] = exactly(call, ["TRAIN", "ROUTE", "SPEED"], &given)?;
-            vec![words_of(&Call::Enter { train, route, speed })]
+            script_of(&[Call::Enter { train, route, speed }])
         }
         "leave" => {
             let [train] = exactly(call, ["TRAIN"], &given)?;
-            vec![words_of(&Call::Leave { train })]
+            script_of(&[Call::Leave { train }])
         }
         "speed" => match given[..] {
-            [] => return Err("'speed' takes one WISH for all trains or up to 25 WISHES, and no number is given".into()),
-            [wish] => vec![speed(&[wish; 24])],
-            _ if given.len() > MOST_WISHES => return Err(format!("'speed' takes up to 25 wishes, and {} are given", given.len())),
-            _ => vec![speed(&given)],
+            [] => return Err(format!("'speed' takes one WISH for all trains or up to {MOST_WISHES} WISHES, and no number is given")),
+            [wish] => script_of(&[Call::Speed { wishes: &[wish; WISHES] }]),
+            _ if given.len() > MOST_WISHES => {
+                return Err(format!("'speed' takes up to {MOST_WISHES} wishes, and {} are given", given.len()))
+            }
+            _ => script_of(&[Call::Speed { wishes: &given }]),
         },
         "cycle" => {
             let [wish] = exactly(call, ["WISH"], &given)?;
-            vec![speed(&[wish; 24]), words_of(&Call::Request), words_of(&Call::Grant), words_of(&Call::Position)]
+            script_of(&cycle(&[wish; WISHES]))
         }
         _ => {
             let [] = exactly(call, [], &given)?;
-            vec![words_of(match call {
-                "request" => &Call::Request,
-                "grant" => &Call::Grant,
-                _ => &Call::Position,
-            })]
+            script_of(&[match call {
+                "request" => Call::Request,
+                "grant" => Call::Grant,
+                _ => Call::Position,
+            }])
         }
     })
 }
 
-fn script(text: &str) -> Result<Vec<Record>, String> {
+fn script(text: &str) -> Result<Vec<u16>, String> {
     // a carriage return ends a line too, by itself or with a line feed after it
     let text = text.replace("\r\n", "\n").replace('\r', "\n");
-    let mut records = vec![];
+    let mut script = vec![];
     for (i, line) in text.lines().enumerate() {
-        records.extend(calls(line).map_err(|wrong| format!("line {}: {wrong}", i + 1))?);
+        script.extend(items(line).map_err(|wrong| format!("line {}: {wrong}", i + 1))?);
     }
-    Ok(records)
+    Ok(script)
 }
 
 fn fail(wrong: impl std::fmt::Display) -> ! {
@@ -106,8 +100,8 @@ fn main() {
     }
     // a comment may be in any encoding, and some editors begin a file with a mark
     let text = String::from_utf8_lossy(&text);
-    let records = script(text.trim_start_matches('\u{feff}')).unwrap_or_else(|wrong| fail(wrong));
-    let bytes: Vec<u8> = records.iter().flatten().flat_map(|word| word.to_le_bytes()).collect();
+    let script = script(text.trim_start_matches('\u{feff}')).unwrap_or_else(|wrong| fail(wrong));
+    let bytes: Vec<u8> = script.iter().flat_map(|item| item.to_le_bytes()).collect();
     let mut out = std::io::stdout().lock();
     if let Err(wrong) = out.write_all(&bytes).and_then(|()| out.flush()) {
         fail(format!("the script cannot be written: {wrong}"));

@@ -1,29 +1,30 @@
 //! Files: load's answer, the views of routes, and what a list and a report make of a refused file.
 use crate::{counted, fail, loaded, same, same_state};
 use reference::breaks::{from_rule, BREAKS, PLACES};
-use reference::file::{BLOCK_SIZE, FILE_SIZE};
 use reference::random::{self, Random};
 use reference::script::script_of;
-use reference::unit::{self, STATE_SIZE};
 use reference::*;
 
 const FILES: u32 = 200_000;
 const EACH_RULE: u64 = 500;
 
+/// Whether an area has an extreme.
+type Has = fn(&Description) -> bool;
+
 /// The extremes that an accepted area can have.
-const EXTREMES: [(&str, fn(&Description) -> bool); 14] = [
+const EXTREMES: [(&str, Has); 14] = [
     ("1 segment", |a| a.segments.len() == 1),
-    ("62 segments", |a| a.segments.len() == 62),
+    ("62 segments", |a| a.segments.len() == SEGMENTS.into()),
     ("1 route", |a| a.routes.len() == 1),
-    ("30 routes", |a| a.routes.len() == 30),
-    ("a route of 31", |a| a.routes.iter().any(|route| route.len() == 31)),
+    ("30 routes", |a| a.routes.len() == ROUTES.into()),
+    ("a route of 31", |a| a.routes.iter().any(|route| route.len() == ROUTE_SEGMENTS.into())),
     ("gmax 1", |a| a.gmax == 1),
-    ("gmax 1000", |a| a.gmax == 1000),
+    ("gmax 1000", |a| a.gmax == TOP_SPEED),
     ("b 1", |a| a.b == 1),
     ("b = gmax", |a| a.b == a.gmax),
     ("d = S(gmax)", |a| u64::from(a.d) == s(a.b.into(), a.gmax.into())),
     ("the least length", |a| a.segments.iter().any(|segment| segment.length == a.d + u32::from(a.gmax) + 1)),
-    ("the greatest length", |a| a.segments.iter().any(|segment| segment.length == 1_000_000)),
+    ("the greatest length", |a| a.segments.iter().any(|segment| segment.length == LONGEST)),
     ("the drop rule met with equality", |a| {
         a.segments.iter().any(|segment| segment.next_links().any(|next| a.segment(next).limit + a.b == segment.limit))
     }),
@@ -76,29 +77,33 @@ pub fn compare(seed: u64) {
 impl Seen {
     /// One file: the number of its answer.
     fn file(&mut self, random: &mut Random, file: &[u8], what: &str) -> u8 {
-        let second = load(file).err().unwrap_or(Refusal { number: 0, place: 0 });
-        same(self.seed, what, unit::load(file), second);
+        let answer @ (number, _) = answer_of(file);
+        same(self.seed, what, unit::load(file), answer);
         // of an accepted file the view of every route, of a refused one some number's
-        let routes = if second.number == 0 { (0..=31).chain([255, 256, 257, 65_535]).collect() } else { vec![random.within(0, 31) as u16] };
+        let beyond = u16::from(ROUTES) + 1;
+        let routes = match number {
+            0 => (0..=beyond).chain([255, 256, 257, 65_535]).collect(),
+            _ => vec![random.within(0, beyond.into()) as u16],
+        };
         for route in routes {
             let view = route_view(file, route);
             same(self.seed, "the view", unit::view(file, route), (route_view_start(file, route) as u32, view.len() as u32));
             self.views += u32::from(!view.is_empty());
         }
-        if second.number != 0 {
-            self.refused(file, second);
+        if number != 0 {
+            self.refused(file, answer);
         }
         self.files += 1;
-        self.rules[usize::from(second.number)] += 1;
-        second.number
+        self.rules[usize::from(number)] += 1;
+        number
     }
 
     /// A refused file: no call is run, the report is refused, and the buffers are as they were.
-    fn refused(&self, file: &[u8], refusal: Refusal) {
+    fn refused(&self, file: &[u8], answer: (u8, u16)) {
         let script = script_of(&[Call::Request, Call::Grant]);
         let (mut answers, mut state) = ([99; 4], [99; STATE_SIZE]);
         let run = unit::run_file(file, &script, &mut answers, &mut state);
-        same(self.seed, "a list from a refused file", run, (refusal, 0));
+        same(self.seed, "a list from a refused file", run, (answer, 0));
         let report = unit::report_file(file, &script, &mut answers);
         same(self.seed, "the report on a refused file", report, (11, 0, 0));
         same(self.seed, "the answers after a refused file", answers, [99; 4]);
@@ -182,10 +187,10 @@ impl Seen {
 
 /// The area's header and tails, without which rule 3 ends it all, and some of its other blocks: one at the least stays random.
 fn put_tails(random: &mut Random, file: &mut [u8], whole: &[u8]) {
-    let stays = random.within(1, 4) as usize;
-    for number in 0..5 {
+    let stays = random.within(1, BLOCKS as u64 - 1) as usize;
+    for number in 0..BLOCKS {
         let start = BLOCK_SIZE * number;
-        let tail = start + if number < 3 { 496 } else { 480 };
+        let tail = start + if number < 3 { KIND_AT } else { ROUTE_BLOCK_ZEROS.start };
         let right = number == 0 || (number != stays && random.one_in(2));
         let part = if right { start } else { tail }..start + BLOCK_SIZE;
         file[part.clone()].copy_from_slice(&whole[part]);

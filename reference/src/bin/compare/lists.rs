@@ -1,9 +1,8 @@
 //! Lists of calls: each answer and the state after each call, from the core's own record and from the file with the whole list;
 //! demand 3 on what the core hands back.
-use crate::{counted, fail, loaded, same, same_state};
+use crate::{counted, fail, loaded, same, same_state, Answers};
 use reference::random::{self, Owned, Random};
-use reference::script::{script_of, words_of};
-use reference::unit::{self, STATE_SIZE};
+use reference::script::{items_of, script_of};
 use reference::*;
 
 const CALLS: u64 = 2_000_000;
@@ -27,7 +26,7 @@ const SPEEDS: [(&str, IsAt); 4] = [
 struct Seen {
     lists: u64,
     calls: u64,
-    answers: [u64; 22],
+    answers: Answers,
     granted: u64,
     without: u64,
     contested: u64,
@@ -74,8 +73,7 @@ impl Seen {
             (Owned::Leave(_), 0) => self.left += 1,
             (Owned::Speed(wishes), 0) => {
                 for (train, &wish) in before.trains.iter().zip(wishes).filter(|(train, _)| train.is_on()) {
-                    let own = before.tables.route(train.route).numbers[usize::from(train.place) - 1];
-                    note_speed(&mut self.wishes, wish, before.tables.segment(own).limit);
+                    note_speed(&mut self.wishes, wish, before.tables.segment(train.own(&before.tables)).limit);
                 }
             }
             (Owned::Grant, 0) => self.note_grant(before, after),
@@ -90,11 +88,11 @@ impl Seen {
     }
 
     fn note_grant(&mut self, before: &Record, after: &Record) {
-        let mut asking = [0; 63];
+        let mut asking = [0; SEGMENTS as usize];
         for (number, train) in (1..).zip(&before.trains).filter(|(_, train)| train.asks) {
-            let next = before.tables.route(train.route).numbers[usize::from(train.place)];
-            asking[usize::from(next)] += 1;
-            self.without += u64::from(after.allocations[usize::from(next) - 1] != number);
+            let next = train.next(&before.tables).expect("a train that asks has a next");
+            asking[usize::from(next) - 1] += 1;
+            self.without += u64::from(after.allocated(next) != number);
         }
         self.contested += asking.iter().filter(|&&trains| trains > 1).count() as u64;
         self.granted += before.allocations.iter().zip(&after.allocations).filter(|(was, is)| was != is).count() as u64;
@@ -147,20 +145,21 @@ impl List {
         let area = loaded(seed, &file);
         let record = area.record();
         let mut state = [99; STATE_SIZE];
-        let (refusal, ran) = unit::run_file(&file, &[], &mut [], &mut state);
-        same(seed, "a list without calls", (refusal.number, refusal.place, ran), (0, 0, 0));
+        let ran = unit::run_file(&file, &[], &mut [], &mut state);
+        same(seed, "a list without calls", ran, ((0, 0), 0));
         same_state(seed, "the state after load", &state, &unit::state_of(&record));
         let demand = Demand3::new(area.tables());
         List { seed, which, file, area, record, demand, calls: vec![], numbers: vec![], states: vec![state] }
     }
 
-    /// The next call: the core has it on the record that it handed back last.
+    /// The next call: the core has it on the record that it handed back last. "The built calls give the same answers, and the record
+    /// handed back holds the same trains on, routes, step due, speeds and allocations": here the whole state; then demand 3.
     fn call(&mut self, owned: Owned) -> u8 {
         let (list, call) = (self.which, self.calls.len() + 1);
         let number = self.area.call(&owned.call());
         self.record = self.area.record();
         let (mut answer, mut state) = ([99], self.states[self.calls.len()]);
-        let ran = unit::run_record(&self.file, &words_of(&owned.call()), &mut answer, &mut state);
+        let ran = unit::run_record(&self.file, &items_of(&owned.call()), &mut answer, &mut state);
         same(self.seed, format_args!("list {list}, call {call}, its answer"), (ran, answer[0]), (1, number));
         same_state(self.seed, format_args!("list {list}, call {call}, the state after it"), &state, &unit::state_of(&self.record));
         let core = unit::record_of(self.area.tables(), &state);
@@ -182,8 +181,8 @@ impl List {
         let script = self.script();
         let mut answers = vec![99; self.calls.len() + 3];
         let mut state = [99; STATE_SIZE + 5];
-        let (refusal, ran) = unit::run_file(&self.file, &script, &mut answers, &mut state);
-        same(self.seed, "load before a list", refusal, Refusal { number: 0, place: 0 });
+        let (answer, ran) = unit::run_file(&self.file, &script, &mut answers, &mut state);
+        same(self.seed, "load before a list", answer, (0, 0));
         same(self.seed, "the number of calls", ran, self.calls.len());
         same(self.seed, "the answers of a list", &answers[..ran], &self.numbers[..]);
         same(self.seed, "what the buffer has beyond the answers", &answers[ran..], &[99; 3][..]);

@@ -8,7 +8,6 @@ mod lists;
 mod records;
 
 use reference::script::script_of;
-use reference::unit::{self, STATE_SIZE};
 use reference::*;
 use std::fmt::{Debug, Display};
 
@@ -36,6 +35,9 @@ fn same_state(seed: u64, what: impl Display, core: &[u8], second: &[u8]) {
     }
 }
 
+/// How often each answer was given, by its number, 0 to 21.
+type Answers = [u64; 22];
+
 /// Prints a count; one below the least ends the comparison.
 fn counted(what: impl Display, count: impl Into<u64>, least: u64) {
     let count = count.into();
@@ -53,12 +55,11 @@ fn loaded(seed: u64, file: &[u8]) -> Area {
 /// Document 01's listing, from both programs.
 fn listing(seed: u64) {
     let file = area_a().file();
-    let wishes = [300; 24];
-    let mut calls = vec![Call::Enter { train: 1, route: 1, speed: 250 }, Call::Enter { train: 2, route: 2, speed: 200 }];
+    let mut calls = AREA_A_ENTRIES.to_vec();
     let mut area = loaded(seed, &file);
     calls.iter().for_each(|call| same(seed, "an entry", 0, area.call(call)));
     for cycle in 1..=6 {
-        for call in [Call::Speed { wishes: &wishes }, Call::Request, Call::Grant, Call::Position] {
+        for call in AREA_A_CYCLE {
             same(seed, "a step", 0, area.call(&call));
             calls.push(call);
         }
@@ -67,25 +68,24 @@ fn listing(seed: u64) {
         same_state(seed, "the state after a cycle of Area A", &state, &unit::state_of(&area.record()));
         let core = unit::record_of(area.tables(), &state);
         for (number, train) in (1..).zip(&core.trains[..2]) {
-            let segment = core.tables.route(train.route).listed()[usize::from(train.place) - 1];
-            println!("listing: {cycle} {number} {segment} {} {}", train.position, train.speed);
+            println!("listing: {cycle} {number} {} {} {}", train.own(&core.tables), train.position, train.speed);
         }
     }
 }
 
 /// S, and B: what is still run after this cycle is S of the speed that a cycle of full braking leaves.
 fn braking(seed: u64) {
-    for b in 1..=1000u16 {
-        for v in 0..=1000u16 {
+    for b in 1..=TOP_SPEED {
+        for v in 0..=TOP_SPEED {
             same(seed, "S", u64::from(unit::braking_distance(b, v)), s(b.into(), v.into()));
             same(seed, "B", u64::from(unit::braking_distance(b, v.saturating_sub(b))), b_rest(b.into(), v.into()));
         }
     }
-    println!("braking: S and B compared for every speed to 1000 and every rate to 1000");
+    println!("braking: S and B compared for every speed to {TOP_SPEED} and every rate to {TOP_SPEED}");
 }
 
 fn main() {
-    let seed = std::env::args().nth(1).map_or(1, |word| word.parse().expect("compare: the seed is a number"));
+    let seed = std::env::args().nth(1).map_or(1, |seed| seed.parse().expect("compare: the seed is a number"));
     braking(seed);
     listing(seed);
     files::compare(seed);

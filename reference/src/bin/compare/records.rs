@@ -1,11 +1,9 @@
 //! Records that no run has reached: the sound test, the report, and a call with the record that it hands back.
-use crate::{counted, fail, loaded, same, same_state};
+use crate::{counted, fail, loaded, same, same_state, Answers};
 use reference::breaks::{from_rule, PLACES};
 use reference::edges::{record_at, sound_record, EDGES};
-use reference::file::FILE_SIZE;
 use reference::random::{self, Random};
-use reference::script::words_of;
-use reference::unit::{self, STATE_SIZE};
+use reference::script::items_of;
 use reference::*;
 
 const RECORDS: u32 = 200_000;
@@ -38,12 +36,12 @@ struct Seen {
     sound: u32,
     kinds: [u32; KINDS.len()],
     edges: [u32; EDGES.len()],
-    answers: [u64; 22],
+    answers: Answers,
 }
 
 pub fn compare(seed: u64) {
     let mut random = Random::new(seed);
-    let mut seen = Seen { seed, records: 0, sound: 0, kinds: [0; KINDS.len()], edges: [0; EDGES.len()], answers: [0; 22] };
+    let mut seen = Seen { seed, records: 0, sound: 0, kinds: [0; KINDS.len()], edges: [0; EDGES.len()], answers: Answers::default() };
     while seen.records < RECORDS {
         let lively = !random.one_in(4);
         let area = random::area(&mut random, lively);
@@ -82,7 +80,7 @@ impl Seen {
         let call = random::call(random, area, record.due);
         let (number, after) = call_on(record, &call.call());
         let mut answer = [99];
-        let ran = unit::run_record(file, &words_of(&call.call()), &mut answer, &mut state);
+        let ran = unit::run_record(file, &items_of(&call.call()), &mut answer, &mut state);
         same(self.seed, format_args!("a call on a record ({what})"), (ran, answer[0]), (1, number));
         same_state(self.seed, format_args!("the state after a call on a record ({what})"), &state, &unit::state_of(&after));
         self.records += 1;
@@ -160,17 +158,17 @@ fn of_random_bytes(random: &mut Random, mut file: Vec<u8>) -> Made {
 
 /// Changes something of a record: a train, an allocation, the step due.
 fn spoil(random: &mut Random, record: &mut Record) {
-    let t = random.within(0, 23) as usize;
+    let t = random.within(0, u64::from(TRAINS) - 1) as usize;
     let train = &mut record.trains[t];
     match random.draw() % 11 {
-        0 => train.route = random.edgy(0, 31) as u8,
-        1 => train.place = random.edgy(0, 32) as u8,
-        2 => train.position = random.edgy(0, 1_000_000) as u32,
+        0 => train.route = random.edgy(0, u64::from(ROUTES) + 1) as u8,
+        1 => train.place = random.edgy(0, u64::from(ROUTE_SEGMENTS) + 1) as u8,
+        2 => train.position = random.edgy(0, LONGEST.into()) as u32,
         3 => train.position = train.position.saturating_add(random.within(1, 2000) as u32),
-        4 => train.speed = random.edgy(0, 1001) as u16,
+        4 => train.speed = random.edgy(0, u64::from(TOP_SPEED) + 1) as u16,
         5 => train.asks = !train.asks,
         6 => record.due = random.within(0, 4) as u8,
-        7 | 8 => record.allocations[random.within(0, 61) as usize] = random.edgy(0, 25) as u8,
+        7 | 8 => record.allocations[random.within(0, u64::from(SEGMENTS) - 1) as usize] = random.edgy(0, u64::from(TRAINS) + 1) as u8,
         9 => *train = RawTrain::OFF,
         _ => train.position = u32::MAX,
     }
