@@ -1,7 +1,9 @@
--- The rows of the table hold: what load answers to the files and what the call position makes of the record, and the computed test.
-use mathlib.Core.Path.{_≡_, refl, ap}
+-- The rows of the table hold: what load answers to the files, what the calls position and enter make of a record, and the computed test.
+use Prim.Native.Nat.{ℕ}
+use mathlib.Core.Path.{_≡_, refl, ap, _∙_}
 use mathlib.Core.Bool.{true, false}
-use Rattle.lists.specs.Words.{nth, each, every}
+use mathlib.Core.List.{List, [], _∷_}
+use Rattle.lists.specs.Words.{nth, at, each, every}
 use Rattle.braking.specs.Braking.{fallingSum, S, B}
 use Rattle.tables.specs.Tables.{countOf, segmentAt}
 use Rattle.tables.specs.Rules.{meets}
@@ -12,10 +14,15 @@ use Rattle.trains.specs.Cycle.{wants, movesIn, movedIn}
 use Rattle.trains.specs.Sound.{placeSound, toRun, brakingSound, askingSound, standsSound, allocationSound}
 use Rattle.answers.specs.declared.Answer.the-variants.{Done, Refused}
 use Rattle.answers.specs.Answers.{answerOf, numberOf}
-use Rattle.loading.specs.Load.{loaded}
+use Rattle.loading.specs.Load.{fresh, loaded}
 use Rattle.area.specs.Sound.{sound}
-use Rattle.area.specs.Calls.{afterPosition, positionCall}
+use Rattle.area.specs.Calls.{afterEnter, enterCall, afterPosition, positionCall}
+use Rattle.reading.proofs.Accepted.{accepted-iff}
 use Rattle.loading.proofs.Loading.{done-iff}
+use Rattle.loading.proofs.Fresh.{fresh-sound}
+use Rattle.separation.specs.Calls.{Enter, called}
+use Rattle.separation.specs.Runs.{noted, worldBy, next, afterFrom, begin, after}
+use Rattle.separation.proofs.Demand3.{from-fresh}
 use Rattle.rows.specs.AreaA.{header, segments, file, headerA, segmentsA, moving}
 use Rattle.rows.specs.Table.{holds, allHold, table}
 use Rattle.rows.proofs.AreaA.{tablesOf, tables, left, found, answered}
@@ -55,7 +62,29 @@ moved-on : trainAt (positionCall moving .area .trains) 1 ≡ record { route = 1;
 unfolding positionCall afterPosition moving each nth
 moved-on = rw (is-sound, tables) (unfold tablesOf ownIn segmentAt movesIn movedIn in refl)
 
+-- train 1 enters the area that load makes of Area A's file
+abbrev A : List ℕ
+A = file headerA segmentsA
+
+loaded-A : numberOf (loaded A .answer) ≡ 0
+loaded-A = ap numberOf area-A
+
+entered-A : enterCall (fresh (decoded A)) 1 1 250 ≡ record { answer = Done; area = afterEnter (fresh (decoded A)) 1 1 250 }
+unfolding enterCall answerOf
+entered-A =
+    rw (fresh-sound A (accepted-iff A .1 (done-iff A .0 loaded-A)))
+    (unfold fresh in rw tables (unfold tablesOf segmentAt nth in refl))
+
+run-A : after A (Enter 1 1 250 ∷ []) ≡ worldBy (begin (fresh (decoded A))) (Enter 1 1 250) (record { answer = Done; area = afterEnter (fresh (decoded A)) 1 1 250 })
+unfolding afterFrom next called
+run-A = from-fresh A loaded-A (Enter 1 1 250 ∷ []) ∙ ap (worldBy (begin (fresh (decoded A))) (Enter 1 1 250)) entered-A
+
+first-A : at (afterEnter (fresh (decoded A)) 1 1 250 .allocations) 1 ≡ 1
+unfolding afterEnter fresh each nth
+first-A = rw tables (unfold tablesOf segmentAt in refl)
+
 -- THE CLAIM
 pub rows-hold : allHold table ≡ true
 unfolding allHold table holds
-rows-hold = rw (moved-on, limit-289, length-4951, length-4950, margin-4649) (unfold S B fallingSum in refl)
+rows-hold =
+    rw (moved-on, limit-289, length-4951, length-4950, margin-4649, area-A, run-A, first-A) (unfold S B fallingSum noted begin in refl)

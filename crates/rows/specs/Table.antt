@@ -3,12 +3,15 @@ use Prim.Native.Nat.{ℕ}
 use mathlib.Core.Bool.{Bool, true, _&&_}
 use mathlib.Core.List.{List, [], _∷_}
 use lib.Dec.{eqb}
+use Rattle.lists.specs.Words.{at}
 use Rattle.braking.specs.Braking.{S, B}
 use Rattle.trains.specs.Train.{trainAt}
 use Rattle.area.specs.declared.Area.{Area}
 use Rattle.answers.specs.Answers.{numberOf, placeOf}
 use Rattle.loading.specs.Load.{loaded}
 use Rattle.area.specs.Calls.{positionCall}
+use Rattle.separation.specs.Calls.{Call, Enter}
+use Rattle.separation.specs.Runs.{isDone, after}
 use Rattle.rows.specs.AreaA.{header, segments, file, headerA, segmentsA, moving}
 
 pub data Row : Type 0 where
@@ -19,6 +22,8 @@ pub data Row : Type 0 where
   Load : (bytes : List ℕ) (number place : ℕ) → Row
   -- after the call position on this record, the train has this place and position
   Move : (before : Area) (train place position : ℕ) → Row
+  -- load answers this file with done, and after these calls the train is on the area and the segment is allocated to it
+  Run : (bytes : List ℕ) (calls : List Call) (train segment : ℕ) → Row
   -- an edge in two halves
   Both : Row → Row → Row
 
@@ -30,6 +35,8 @@ holds (Load bytes number place) = eqb (numberOf (loaded bytes .answer)) number &
 holds (Move before train place position) =
     eqb (trainAt (positionCall before .area .trains) train .place) place
     && eqb (trainAt (positionCall before .area .trains) train .position) position
+holds (Run bytes calls train segment) =
+    isDone (loaded bytes .answer) && after bytes calls .history .on train && eqb (at (after bytes calls .area .allocations) segment) train
 holds (Both x y) = holds x && holds y
 
 -- the test of all rows
@@ -37,7 +44,7 @@ unfoldable pub allHold : List Row → Bool
 allHold [] = true
 allHold (x ∷ rows) = holds x && allHold rows
 
--- the seven values of S, the value of B and the four edges
+-- the seven values of S, the value of B, the four edges, and a run
 unfoldable pub table : List Row
 table =
     ValueS 10 5 5
@@ -56,4 +63,6 @@ table =
     ∷ Load (file headerA (segments 5500 289 250 78)) 9 1
     -- "Position + speed equal to the length moves on to 0"
     ∷ Move moving 1 2 0
+    -- a run with a train on it: what the claim of whole runs asks for is met
+    ∷ Run (file headerA segmentsA) (Enter 1 1 250 ∷ []) 1 1
     ∷ []
