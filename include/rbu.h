@@ -15,10 +15,21 @@
 extern "C" {
 #endif
 
-// An area file, the bytes of a state, and the 16-bit words of one call of a script.
+// An area file, the bytes of a state, and the 16-bit items of one call of a script.
 #define RBU_FILE_SIZE 2560
 #define RBU_STATE_SIZE 832
-#define RBU_CALL_WORDS 32
+#define RBU_CALL_ITEMS 32
+
+// The stack that each function takes at most, in bytes, on x86-64. No theorem says this: it is measured by .ci/stack.c, with the
+// inputs that go deepest, and the figures have a quarter to spare. No function calls itself, and none takes more for a longer list.
+#define RBU_STACK_LOAD 11264
+#define RBU_STACK_VIEW 11264
+#define RBU_STACK_RUN_FILE 28672
+#define RBU_STACK_REPORT_FILE 28672
+#define RBU_STACK_RUN_RECORD 21504
+#define RBU_STACK_SOUND 10240
+#define RBU_STACK_REPORT_RECORD 11264
+#define RBU_STACK_BRAKING_DISTANCE 1024
 
 // ---- files
 
