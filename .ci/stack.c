@@ -84,20 +84,23 @@ static size_t bytes(void (*function)(void)) {
 
 enum { LOAD, VIEW, RUN_FILE, REPORT_FILE, RUN_RECORD, SOUND, REPORT_RECORD, BRAKING_DISTANCE, FUNCTIONS };
 
+#define ROW(NAME, function) [NAME] = {"rbu_" #function, "RBU_STACK_" #NAME, function, RBU_STACK_##NAME, 0}
+
 static struct {
     const char *name;
+    const char *figure_name;
     void (*function)(void);
     size_t figure;
     size_t most;
 } functions[FUNCTIONS] = {
-    {"rbu_load", load, RBU_STACK_LOAD, 0},
-    {"rbu_view", view, RBU_STACK_VIEW, 0},
-    {"rbu_run_file", run_file, RBU_STACK_RUN_FILE, 0},
-    {"rbu_report_file", report_file, RBU_STACK_REPORT_FILE, 0},
-    {"rbu_run_record", run_record, RBU_STACK_RUN_RECORD, 0},
-    {"rbu_sound", sound, RBU_STACK_SOUND, 0},
-    {"rbu_report_record", report_record, RBU_STACK_REPORT_RECORD, 0},
-    {"rbu_braking_distance", braking_distance, RBU_STACK_BRAKING_DISTANCE, 0},
+    ROW(LOAD, load),
+    ROW(VIEW, view),
+    ROW(RUN_FILE, run_file),
+    ROW(REPORT_FILE, report_file),
+    ROW(RUN_RECORD, run_record),
+    ROW(SOUND, sound),
+    ROW(REPORT_RECORD, report_record),
+    ROW(BRAKING_DISTANCE, braking_distance),
 };
 
 // The first run is not measured: in it the C library finds its own functions, and takes stack for that once.
@@ -209,11 +212,10 @@ int main(int count_of_names, char **names) {
         failed = 1;
     }
     for (int k = 0; k < FUNCTIONS; k++) {
-        size_t fit = figure_for(functions[k].most);
-        bool fits = functions[k].most <= functions[k].figure && functions[k].figure <= fit + 1024;
-        printf("stack: %s takes %zu bytes; rbu.h says %zu%s", functions[k].name, functions[k].most, functions[k].figure, fits ? "\n" : "");
-        if (fits) continue;
-        printf(", and should say %zu\n", fit);
+        size_t most = functions[k].most, figure = functions[k].figure, fit = figure_for(most);
+        printf("stack: %s takes %zu bytes; rbu.h says %zu\n", functions[k].name, most, figure);
+        if (most <= figure && figure <= fit + 1024) continue;
+        printf("stack: rbu.h should say: #define %s %zu\n", functions[k].figure_name, fit);
         failed = 1;
     }
     return failed;

@@ -20,8 +20,9 @@ extern "C" {
 #define RBU_STATE_SIZE 832
 #define RBU_CALL_ITEMS 32
 
-// The stack that each function takes at most, in bytes, on x86-64. No theorem says this: it is measured by .ci/stack.c, with the
-// inputs that go deepest, and the figures have a quarter to spare. No function calls itself, and none takes more for a longer list.
+// The stack that a call of each function takes, in bytes, on x86-64. No theorem bounds it: it is measured, on a painted stack, with
+// lists of thousands of calls and every answer among them. The figures have a quarter to spare; the tests measure it again and
+// hold them to it (.ci/stack.c).
 #define RBU_STACK_LOAD 11264
 #define RBU_STACK_VIEW 11264
 #define RBU_STACK_RUN_FILE 28672
