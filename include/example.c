@@ -10,8 +10,8 @@
 
 enum { MOST_CALLS = 1000 };
 
-static uint8_t input[RBU_FILE_SIZE + MOST_CALLS * RBU_CALL_WORDS * 2];
-static uint16_t script[MOST_CALLS * RBU_CALL_WORDS];
+static uint8_t input[RBU_FILE_SIZE + MOST_CALLS * RBU_CALL_ITEMS * 2];
+static uint16_t script[MOST_CALLS * RBU_CALL_ITEMS];
 static uint8_t answers[MOST_CALLS];
 static uint8_t state[RBU_STATE_SIZE];
 
@@ -38,12 +38,12 @@ static void print_state(void) {
 int main(void) {
     size_t size = fread(input, 1, sizeof input, stdin);
     size_t file_size = size < RBU_FILE_SIZE ? size : RBU_FILE_SIZE;
-    size_t words = (size - file_size) / 2;
-    for (size_t i = 0; i < words; i++) script[i] = (uint16_t)number_at(input + file_size + 2 * i, 2);
+    size_t items = (size - file_size) / 2;
+    for (size_t i = 0; i < items; i++) script[i] = (uint16_t)number_at(input + file_size + 2 * i, 2);
 
     uint8_t number;
     uint16_t place;
-    size_t calls = rbu_run_file(input, file_size, script, words, answers, sizeof answers, state, sizeof state, &number, &place);
+    size_t calls = rbu_run_file(input, file_size, script, items, answers, sizeof answers, state, sizeof state, &number, &place);
     printf("load %u %u\n", number, place);
     if (number != 0) return 1;
     for (size_t k = 0; k < calls; k++) printf("%u\n", answers[k]);

@@ -15,10 +15,22 @@
 extern "C" {
 #endif
 
-// An area file, the bytes of a state, and the 16-bit words of one call of a script.
+// An area file, the bytes of a state, and the 16-bit items of one call of a script.
 #define RBU_FILE_SIZE 2560
 #define RBU_STATE_SIZE 832
-#define RBU_CALL_WORDS 32
+#define RBU_CALL_ITEMS 32
+
+// The stack that a call of each function takes, in bytes, on x86-64. No theorem bounds it: it is measured, on a painted stack, with
+// lists of thousands of calls and every answer among them. The figures have a quarter to spare; the tests measure it again and
+// hold them to it (.ci/stack.c).
+#define RBU_STACK_LOAD 11264
+#define RBU_STACK_VIEW 11264
+#define RBU_STACK_RUN_FILE 28672
+#define RBU_STACK_REPORT_FILE 28672
+#define RBU_STACK_RUN_RECORD 21504
+#define RBU_STACK_SOUND 10240
+#define RBU_STACK_REPORT_RECORD 11264
+#define RBU_STACK_BRAKING_DISTANCE 1024
 
 // ---- files
 
