@@ -90,13 +90,13 @@ pub fn sped_all(
 }
 
 // ---- request
-fn requested_train(spot: Spot, x: Train) -> Train
-    ensures { λ r. ⌜ r ≡ (if isOn x then withAsking x (wants spot) else x) ⌝ }
+fn requested_train(spot: Spot, train: Train) -> Train
+    ensures { λ r. ⌜ r ≡ (if isOn train then withAsking train (wants spot) else train) ⌝ }
 {
-    if x.route == 0 {
-        return x;
+    if train.route == 0 {
+        return train;
     }
-    trains::with_asking(x, trains::wants_next(spot))
+    trains::with_asking(train, trains::wants_next(spot))
 }
 
 pub fn requested_all(tables: Tables, allocations: [u8; 62], trains: [Train; 24]) -> [Train; 24]
