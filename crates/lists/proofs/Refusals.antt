@@ -80,9 +80,9 @@ first-none (t ∷ ts) e = go (t .holds) refl (first-none ts)
 pub first-number : (ts : List Test) → absent 0 ts ≡ true → eqb (firstOf ts .number) 0 ≡ not (firstOf ts .holds)
 first-number ts out = by-test (firstOf ts .holds) (λ h. rw h (first-absent 0 ts out h)) (λ h. rw (first-none ts h))
 
--- a number that is none of 1 to top, as the code tests it
+-- a number that is one of 1 to top, and one that is none, as the code tests it
 module _ (top r : ℕ) where
-  outside : (eqb r 0 || ltb top r) ≡ not (leb 1 r && leb r top)
+  pub outside : (eqb r 0 || ltb top r) ≡ not (leb 1 r && leb r top)
   outside =
       cases (eq-or-ne r 0)
       (λ e. rw e)
@@ -92,11 +92,14 @@ module _ (top r : ℕ) where
       (λ h. rw (ne-eqb r 0 n, le-leb 1 r one, lt-ltb top r h, lt-leb r top h))
       (λ h. rw (ne-eqb r 0 n, le-leb 1 r one, le-ltb top r h, le-leb r top h)))
 
-  pub inside : (eqb r 0 || ltb top r) ≡ false → (1 ≤ r) × (r ≤ top)
-  inside e =
-      let h : (leb 1 r && leb r top) ≡ true = not-false _ (sym outside ∙ e) in
+  pub within : not (leb 1 r && leb r top) ≡ false → (1 ≤ r) × (r ≤ top)
+  within e =
+      let h : (leb 1 r && leb r top) ≡ true = not-false _ e in
       let f = simp facts at h in
       omega arith
+
+  pub inside : (eqb r 0 || ltb top r) ≡ false → (1 ≤ r) × (r ≤ top)
+  inside e = within (sym outside ∙ e)
 
 -- some tests are left to decide what the whole is; `by` says what it comes to by the test that decides
 pub record Left {A : Type 0} (by : Test → A) (whole : A) (tests : List Test) : Type 0 where
@@ -117,38 +120,6 @@ module _ {A : Type 0} {by : Test → A} {whole : A} {n p : ℕ} {tests : List Te
 
     pub leave-met : not r ≡ false → Left by whole tests
     leave-met e = leave left (rw (test-holds found e))
-
-  -- tested with `if x != y`
-  module _ {x y : ℕ} (left : Left by whole (not (eqb x y) ⇒ n place p ∷ tests)) where
-    pub refuse-other : (x ≡ y → ⊥) → by (true ⇒ n place p) ≡ whole
-    refuse-other h = refuse left (rw (ne-eqb x y h))
-
-    pub leave-same : x ≡ y → Left by whole tests
-    leave-same h = leave left (rw (eq-eqb x y h))
-
-  -- tested with `if x < y`
-  module _ {x y : ℕ} (left : Left by whole (ltb x y ⇒ n place p ∷ tests)) where
-    pub refuse-above : x < y → by (true ⇒ n place p) ≡ whole
-    refuse-above h = refuse left (lt-ltb x y h)
-
-    pub leave-within : y ≤ x → Left by whole tests
-    leave-within h = leave left (le-ltb x y h)
-
-  -- tested with `if (r == 0) | (top < r)`
-  module _ (top r : ℕ) (left : Left by whole (not (leb 1 r && leb r top) ⇒ n place p ∷ tests)) where
-    pub refuse-outside : (eqb r 0 || ltb top r) ≡ true → by (true ⇒ n place p) ≡ whole
-    refuse-outside e = refuse left (sym (outside top r) ∙ e)
-
-    pub leave-inside : (eqb r 0 || ltb top r) ≡ false → Left by whole tests
-    leave-inside e = leave left (sym (outside top r) ∙ e)
-
-  -- tested with `if x == 0`, where more than 0 is asked for
-  module _ {x : ℕ} (left : Left by whole (not (ltb 0 x) ⇒ n place p ∷ tests)) where
-    pub refuse-zero : x ≡ 0 → by (true ⇒ n place p) ≡ whole
-    refuse-zero h = refuse left (rw h)
-
-    pub leave-some : (x ≡ 0 → ⊥) → Left by whole tests
-    leave-some h = let some : 0 < x = omega arith in leave left (rw (lt-ltb 0 x some))
 
 -- no test of the list names a place
 abbrev pub placeless : List Test → Bool
