@@ -1,15 +1,34 @@
--- The tests of a call that are left to decide its outcome, and the step finished where none is.
-use mathlib.Core.Path.{_≡_}
-use mathlib.Core.List.{List, []}
-use Rattle.lists.specs.Tests.{Test}
-use Rattle.lists.proofs.Refusals.{Left}
+-- A call's outcome by the number of the first of its tests that holds: a refusal where it is not 0, and the finished step where it is.
+use Prim.Native.Nat.{ℕ}
+use mathlib.Core.Path.{_≡_, sym, ap, _∙_}
+use mathlib.Core.Bool.{Bool, true, false, not}
+use mathlib.Core.List.{List}
+use lib.Dec.{eqb}
+use borrow.Author.Tests.{not-true, eq-eqb}
+use Rattle.lists.specs.Tests.{Test, firstOf, conditionOf}
+use Rattle.lists.proofs.Cases.{by-test}
+use Rattle.lists.proofs.Refusals.{passed, absent, first-none, first-number, placeless, first-placeless}
+use Rattle.answers.specs.Answers.{answerOf}
 use Rattle.area.specs.declared.Area.{Area}
 use Rattle.area.specs.declared.Outcome.{Outcome}
-use Rattle.answers.specs.Answers.{answerOf}
-use Rattle.area.specs.Calls.{outcomeBy}
+use Rattle.area.specs.Calls.{outcome}
 
-abbrev pub LeftOutcome : Outcome → Area → Area → List Test → Type 0
-LeftOutcome whole new old tests = Left (λ (t : Test). outcomeBy t new old) whole tests
+module _ (tests : List Test) {number : ℕ} (first : number ≡ firstOf tests .number) where
+  -- no test holds where the number is 0
+  none-holds : absent 0 tests ≡ true → number ≡ 0 → firstOf tests .holds ≡ false
+  none-holds out zero = not-true _ (sym (first-number tests out) ∙ eq-eqb _ 0 (sym first ∙ zero))
 
-pub finish : {whole : Outcome} {new old made : Area} → LeftOutcome whole new old [] → made ≡ new → record { answer = answerOf 0 0; area = made } ≡ whole
-finish left e = rw e (left .decide)
+  -- so the test of a given number does not
+  pub passed-by : absent 0 tests ≡ true → number ≡ 0 → (n : ℕ) → conditionOf n tests ≡ false
+  passed-by out zero n = passed n tests (none-holds out zero)
+
+  module _ (new old : Area) where
+    pub refused-by : placeless tests ≡ true → (number ≡ 0 → ⊥) → record { answer = answerOf number 0; area = old } ≡ outcome tests new old
+    refused-by plain some =
+        by-test (firstOf tests .holds)
+        (λ h. rw (first, h, first-placeless tests plain))
+        (λ h. absurd (some (first ∙ ap (λ (t : Test). t .number) (first-none tests h))))
+
+    pub finished-by :
+        {made : Area} → absent 0 tests ≡ true → number ≡ 0 → made ≡ new → record { answer = answerOf 0 0; area = made } ≡ outcome tests new old
+    finished-by out zero same = rw (first-none tests (none-holds out zero), same)

@@ -1,9 +1,19 @@
 // An area by value, and its calls: each takes the record and hands it back in an outcome. A refusal hands it back as it came.
 ghost use mathlib.Core.Path.{_≡_};
+ghost use mathlib.Core.Bool.{not, _&&_};
+ghost use mathlib.Core.List.{[], _∷_};
+ghost use Prim.Native.Nat.{_/_, _%_};
+ghost use lib.Dec.{ltb, eqb};
+ghost use Rattle.lists.specs.Words.{at};
+ghost use Rattle.lists.specs.Tests.{_⇒_, firstOf};
+ghost use Rattle.tables.specs.Tables.{countOf};
+ghost use Rattle.trains.specs.Train.{ownIn};
 ghost use Rattle.answers.specs.Answers.{answerOf};
 ghost use Rattle.area.specs.Sound.{sound};
-ghost use Rattle.area.specs.Calls.{outcome, routeTests, afterEnter, enterCall, leaveCall, speedCall, requestCall, grantCall, positionCall, reported};
+ghost use Rattle.area.specs.Calls.{enterTests, routeTests, leaveTests, speedTests, stepTests, enterCall, leaveCall, speedCall, requestCall, grantCall, positionCall, reported};
 use answers::Answer;
+use lists::entry_u8;
+use lists::entry_u16;
 use tables::Tables;
 use trains::Train;
 
@@ -28,7 +38,8 @@ pub struct Report {
     pub free: u8,
 }
 
-fn refused(area: Area, number: u8) -> Outcome
+// The answer of a number, 0 for done, and the record that is handed back with it.
+fn answered(area: Area, number: u8) -> Outcome
     ensures { λ r. ⌜ r ≡ record { answer = answerOf number 0; area = area } ⌝ }
 {
     Outcome {
@@ -37,45 +48,116 @@ fn refused(area: Area, number: u8) -> Outcome
     }
 }
 
-fn done(area: Area) -> Outcome
-    ensures { λ r. ⌜ r ≡ record { answer = answerOf 0 0; area = area } ⌝ }
+// ---- the number of the first test of a call that holds, 0 where none does
+fn step_refusal(area: Area, step: u8) -> u8
+    ensures { λ r. ⌜ r ≡ firstOf (stepTests step area) .number ⌝ }
 {
-    Outcome {
-        answer: answers::answer_of(0, 0),
-        area,
+    if !area.sound() {
+        return 11;
     }
+    if area.due != step {
+        return 12;
+    }
+    0
 }
 
-// The tests of the route, and the entry itself, of train t.
-fn enter_route(area: Area, t: u8, route: u16, speed: u16) -> Outcome
-    ensures { λ r. ⌜ r ≡ outcome (routeTests area route speed) (afterEnter area t route speed) area ⌝ }
+fn speed_refusal(area: Area, wishes: &[u16]) -> u8
+    ensures { λ r. ⌜ r ≡ firstOf (speedTests area (now (wishes .entry))) .number ⌝ }
 {
-    let tables = area.tables;
-    if (route == 0) | ((tables.routes as u16) < route) {
-        return refused(area, 16);
+    if !area.sound() {
+        return 11;
     }
-    let r = route as u8;
-    let first = tables::segment_at(&tables.routebytes, r, 1);
-    if lists::entry_u8(&tables.flags, first as usize) % 2 != 1 {
-        return refused(area, 17);
+    if area.due != 0 {
+        return 12;
     }
-    let held = area.allocations;
-    if 0 < lists::entry_u8(&held, first as usize) {
-        return refused(area, 18);
+    if wishes.len() != 24 {
+        return 21;
     }
-    if lists::entry_u16(&tables.limits, first as usize) < speed {
-        return refused(area, 19);
+    0
+}
+
+// The tests of a route's first segment.
+fn first_segment_refusal<'a>(
+    flags: &'a [u8; 62],
+    allocations: &'a [u8; 62],
+    limits: &'a [u16; 62],
+    first: u8,
+    speed: u16,
+) -> u8
+    ensures { λ r. ⌜ r ≡ firstOf (not (eqb (at (now (flags .entry)) first % 2) 1) ⇒ 17 ∷ ltb 0 (at (now (allocations .entry)) first) ⇒ 18 ∷ ltb (at (now (limits .entry)) first) speed ⇒ 19 ∷ []) .number ⌝ }
+{
+    if entry_u8(flags, first as usize) % 2 != 1 {
+        return 17;
     }
-    let before = area.trains;
-    let allocations = enter_leave::taken_all(held, first, t);
-    let entered = trains::entered_train(r, speed);
-    let trains = enter_leave::with_train(before, t, entered);
-    done(Area {
-        tables,
-        allocations,
-        trains,
-        due: area.due,
-    })
+    if 0 < entry_u8(allocations, first as usize) {
+        return 18;
+    }
+    if entry_u16(limits, first as usize) < speed {
+        return 19;
+    }
+    0
+}
+
+fn route_refusal(area: Area, route: u16, speed: u16) -> u8
+    ensures { λ r. ⌜ r ≡ firstOf (routeTests area route speed) .number ⌝ }
+{
+    if (route == 0) | ((area.tables.routes as u16) < route) {
+        return 16;
+    }
+    let first = tables::segment_at(&area.tables.routebytes, route as u8, 1);
+    first_segment_refusal(
+        &area.tables.flags,
+        &area.allocations,
+        &area.tables.limits,
+        first,
+        speed,
+    )
+}
+
+fn enter_refusal(area: Area, train: u16, route: u16, speed: u16) -> u8
+    ensures { λ r. ⌜ r ≡ firstOf (enterTests area train route speed) .number ⌝ }
+{
+    if !area.sound() {
+        return 11;
+    }
+    if (train == 0) | (24 < train) {
+        return 13;
+    }
+    let trains = area.trains;
+    let x = trains::train_at(trains, train as u8);
+    if 0 < x.route {
+        return 14;
+    }
+    route_refusal(area, route, speed)
+}
+
+// On its route's last segment, which has the exit flag.
+fn at_exit<'a>(routebytes: &'a [u8; 960], flags: &'a [u8; 62], x: Train) -> bool
+    ensures { λ r. ⌜ r ≡ (eqb (x .place) (countOf (now (routebytes .entry)) (x .route)) && eqb (at (now (flags .entry)) (ownIn (now (routebytes .entry)) x) / 2) 1) ⌝ }
+{
+    let own = trains::own_of(routebytes, x);
+    let last = tables::count_of(routebytes, x.route);
+    (x.place == last) & (entry_u8(flags, own as usize) / 2 == 1)
+}
+
+fn leave_refusal(area: Area, train: u16) -> u8
+    ensures { λ r. ⌜ r ≡ firstOf (leaveTests area train) .number ⌝ }
+{
+    if !area.sound() {
+        return 11;
+    }
+    if (train == 0) | (24 < train) {
+        return 13;
+    }
+    let trains = area.trains;
+    let x = trains::train_at(trains, train as u8);
+    if x.route == 0 {
+        return 15;
+    }
+    if !at_exit(&area.tables.routebytes, &area.tables.flags, x) {
+        return 20;
+    }
+    0
 }
 
 impl Area {
@@ -102,142 +184,141 @@ impl Area {
     pub fn enter(self, train: u16, route: u16, speed: u16) -> Outcome
         ensures { λ r. ⌜ r ≡ enterCall self train route speed ⌝ }
     {
-        if !self.sound() {
-            return refused(self, 11);
-        }
-        if (train == 0) | (24 < train) {
-            return refused(self, 13);
+        let number = enter_refusal(self, train, route, speed);
+        if number != 0 {
+            return answered(self, number);
         }
         let t = train as u8;
-        let trains = self.trains;
-        let x = trains::train_at(trains, t);
-        if 0 < x.route {
-            return refused(self, 14);
-        }
-        enter_route(self, t, route, speed)
+        let r = route as u8;
+        let tables = self.tables;
+        let held = self.allocations;
+        let before = self.trains;
+        let first = tables::segment_at(&tables.routebytes, r, 1);
+        let allocations = enter_leave::taken_all(held, first, t);
+        let trains = enter_leave::with_train(before, t, trains::entered_train(r, speed));
+        answered(
+            Area {
+                tables,
+                allocations,
+                trains,
+                due: self.due,
+            },
+            0,
+        )
     }
 
     pub fn leave(self, train: u16) -> Outcome
         ensures { λ r. ⌜ r ≡ leaveCall self train ⌝ }
     {
-        if !self.sound() {
-            return refused(self, 11);
-        }
-        if (train == 0) | (24 < train) {
-            return refused(self, 13);
+        let number = leave_refusal(self, train);
+        if number != 0 {
+            return answered(self, number);
         }
         let t = train as u8;
-        let before = self.trains;
-        let x = trains::train_at(before, t);
-        if x.route == 0 {
-            return refused(self, 15);
-        }
         let tables = self.tables;
-        let own = trains::own_of(&tables.routebytes, x);
-        let last = tables::count_of(&tables.routebytes, x.route);
-        let flags = lists::entry_u8(&tables.flags, own as usize);
-        if !((x.place == last) & (flags / 2 == 1)) {
-            return refused(self, 20);
-        }
         let held = self.allocations;
+        let before = self.trains;
         let allocations = enter_leave::freed_all(held, t);
-        let off = trains::train_off();
-        let trains = enter_leave::with_train(before, t, off);
-        done(Area {
-            tables,
-            allocations,
-            trains,
-            due: self.due,
-        })
+        let trains = enter_leave::with_train(before, t, trains::train_off());
+        answered(
+            Area {
+                tables,
+                allocations,
+                trains,
+                due: self.due,
+            },
+            0,
+        )
     }
 
     pub fn speed(self, wishes: &[u16]) -> Outcome
         ensures { λ r. ⌜ r ≡ speedCall self (now (wishes .entry)) ⌝ }
     {
-        if !self.sound() {
-            return refused(self, 11);
-        }
-        if self.due != 0 {
-            return refused(self, 12);
-        }
-        if wishes.len() != 24 {
-            return refused(self, 21);
+        let number = speed_refusal(self, wishes);
+        if number != 0 {
+            return answered(self, number);
         }
         let tables = self.tables;
         let allocations = self.allocations;
         let before = self.trains;
         let trains = cycle::sped_all(tables, allocations, wishes, before);
-        done(Area {
-            tables,
-            allocations,
-            trains,
-            due: 1,
-        })
+        answered(
+            Area {
+                tables,
+                allocations,
+                trains,
+                due: 1,
+            },
+            0,
+        )
     }
 
     pub fn request(self) -> Outcome
         ensures { λ r. ⌜ r ≡ requestCall self ⌝ }
     {
-        if !self.sound() {
-            return refused(self, 11);
-        }
-        if self.due != 1 {
-            return refused(self, 12);
+        let number = step_refusal(self, 1);
+        if number != 0 {
+            return answered(self, number);
         }
         let tables = self.tables;
         let allocations = self.allocations;
         let before = self.trains;
         let trains = cycle::requested_all(tables, allocations, before);
-        done(Area {
-            tables,
-            allocations,
-            trains,
-            due: 2,
-        })
+        answered(
+            Area {
+                tables,
+                allocations,
+                trains,
+                due: 2,
+            },
+            0,
+        )
     }
 
     pub fn grant(self) -> Outcome
         ensures { λ r. ⌜ r ≡ grantCall self ⌝ }
     {
-        if !self.sound() {
-            return refused(self, 11);
-        }
-        if self.due != 2 {
-            return refused(self, 12);
+        let number = step_refusal(self, 2);
+        if number != 0 {
+            return answered(self, number);
         }
         let tables = self.tables;
         let held = self.allocations;
         let before = self.trains;
         let allocations = grant::granted_all(tables, before, held);
         let trains = grant::calmed_all(before);
-        done(Area {
-            tables,
-            allocations,
-            trains,
-            due: 3,
-        })
+        answered(
+            Area {
+                tables,
+                allocations,
+                trains,
+                due: 3,
+            },
+            0,
+        )
     }
 
     pub fn position(self) -> Outcome
         ensures { λ r. ⌜ r ≡ positionCall self ⌝ }
     {
-        if !self.sound() {
-            return refused(self, 11);
-        }
-        if self.due != 3 {
-            return refused(self, 12);
+        let number = step_refusal(self, 3);
+        if number != 0 {
+            return answered(self, number);
         }
         let tables = self.tables;
         let held = self.allocations;
         let before = self.trains;
         let allocations = cycle::released_all(tables, before, held);
         let trains = cycle::moved_all(tables, before);
-        done(Area {
-            tables,
-            allocations,
-            trains,
-            due: 0,
-        })
+        answered(
+            Area {
+                tables,
+                allocations,
+                trains,
+                due: 0,
+            },
+            0,
+        )
     }
 
     pub fn report(self) -> Report

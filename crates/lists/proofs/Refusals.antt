@@ -6,7 +6,7 @@ use mathlib.Core.Bool.{Bool, true, false, not, _&&_, _||_, and-eq-true-iff}
 use mathlib.Core.List.{List, [], _∷_}
 use native.Mathlib.Omega.{arith}
 use lib.Dec.{leb, ltb, eqb}
-use borrow.Author.Tests.{eqb-true, ltb-true, lt-ltb, le-ltb, le-leb, lt-leb, eq-eqb, ne-eqb, not-false}
+use borrow.Author.Tests.{eqb-true, eqb-false, lt-ltb, le-ltb, le-leb, lt-leb, eq-eqb, ne-eqb, not-true, not-false}
 use Rattle.lists.specs.Words.{if_then_else_}
 use Rattle.lists.specs.Tests.{Test, _⇒_, _⇒_place_, firstOf, conditionOf, placeNamed}
 use Rattle.lists.proofs.Cases.{if-case, by-test, cases, lt-or-le, eq-or-ne, not-both, facts, test-fails, test-holds}
@@ -20,45 +20,50 @@ passed n (t ∷ ts) e = go (t .holds) refl (passed n ts)
     go true q rest = let z : true ≡ false = rw q at e in not-both true refl z
     go false q rest = if-case (λ (x : Bool). x ≡ false) (eqb (t .number) n) (λ b. q) (λ b. rest (rw q at e))
 
--- where a list's numbers rise from above k, they tell its tests apart
-abbrev pub rising : ℕ → List Test → Bool
-rising k [] = true
-rising k (t ∷ ts) = ltb k (t .number) && rising (t .number) ts
+-- no test of a list has number n
+abbrev pub absent : ℕ → List Test → Bool
+absent n [] = true
+absent n (t ∷ ts) = not (eqb (t .number) n) && absent n ts
 
-first-above : (k : ℕ) (ts : List Test) → rising k ts ≡ true → firstOf ts .holds ≡ true → k < firstOf ts .number
-first-above k [] up h = not-both true refl (sym h)
-first-above k (t ∷ ts) up h = go (t .holds) refl (first-above (t .number) ts)
+-- no two tests of a list have the same number
+abbrev pub apart : List Test → Bool
+apart [] = true
+apart (t ∷ ts) = absent (t .number) ts && apart ts
+
+first-absent : (n : ℕ) (ts : List Test) → absent n ts ≡ true → firstOf ts .holds ≡ true → eqb (firstOf ts .number) n ≡ false
+first-absent n [] out h = not-both true refl (sym h)
+first-absent n (t ∷ ts) out h = go (t .holds) refl (first-absent n ts)
   where
-    both : (ltb k (t .number) ≡ true) × (rising (t .number) ts ≡ true)
-    both = and-eq-true-iff (ltb k (t .number)) (rising (t .number) ts) .0 up
+    both : (not (eqb (t .number) n) ≡ true) × (absent n ts ≡ true)
+    both = and-eq-true-iff (not (eqb (t .number) n)) (absent n ts) .0 out
 
     go :
-        (b : Bool) → t .holds ≡ b → (rising (t .number) ts ≡ true → firstOf ts .holds ≡ true → t .number < firstOf ts .number)
-        → k < (if t .holds then t else firstOf ts) .number
-    go true q rest = rw q (ltb-true k (t .number) (both .0))
-    go false q rest = rw q (let r : t .number < firstOf ts .number = rest (both .1) (rw q at h) in let l = ltb-true k (t .number) (both .0) in omega arith)
+        (b : Bool) → t .holds ≡ b → (absent n ts ≡ true → firstOf ts .holds ≡ true → eqb (firstOf ts .number) n ≡ false)
+        → eqb ((if t .holds then t else firstOf ts) .number) n ≡ false
+    go true q rest = rw q (not-true _ (both .0))
+    go false q rest = rw q (rest (both .1) (rw q at h))
 
--- the first test that holds is the one of its number
+-- where numbers tell a list's tests apart, the first test that holds is the one of its number
 pub first-named :
-    (n k : ℕ) (ts : List Test) → rising k ts ≡ true → firstOf ts .holds ≡ true → firstOf ts .number ≡ n
+    (n : ℕ) (ts : List Test) → apart ts ≡ true → firstOf ts .holds ≡ true → firstOf ts .number ≡ n
     → (conditionOf n ts ≡ true) × (firstOf ts .place ≡ placeNamed n ts)
-first-named n k [] up h e = not-both true refl (sym h)
-first-named n k (t ∷ ts) up h e = go (t .holds) refl (first-named n (t .number) ts)
+first-named n [] told h e = not-both true refl (sym h)
+first-named n (t ∷ ts) told h e = go (t .holds) refl (first-named n ts)
   where
-    tail : rising (t .number) ts ≡ true
-    tail = and-eq-true-iff (ltb k (t .number)) (rising (t .number) ts) .0 up .1
+    both : (absent (t .number) ts ≡ true) × (apart ts ≡ true)
+    both = and-eq-true-iff (absent (t .number) ts) (apart ts) .0 told
 
     go :
         (b : Bool) → t .holds ≡ b
-        → (rising (t .number) ts ≡ true → firstOf ts .holds ≡ true → firstOf ts .number ≡ n → (conditionOf n ts ≡ true) × (firstOf ts .place ≡ placeNamed n ts))
+        → (apart ts ≡ true → firstOf ts .holds ≡ true → firstOf ts .number ≡ n → (conditionOf n ts ≡ true) × (firstOf ts .place ≡ placeNamed n ts))
         → ((if eqb (t .number) n then t .holds else conditionOf n ts) ≡ true)
         × ((if t .holds then t else firstOf ts) .place ≡ (if eqb (t .number) n then t .place else placeNamed n ts))
     go true q rest = let same : t .number ≡ n = rw q at e in rw (q, eq-eqb (t .number) n same) (refl, refl)
     go false q rest =
         let h′ : firstOf ts .holds ≡ true = rw q at h in
         let e′ : firstOf ts .number ≡ n = rw q at e in
-        let up′ = first-above (t .number) ts tail h′ in
-        rw (q, ne-eqb (t .number) n (λ z. omega arith)) (rest tail h′ e′)
+        let other = eqb-false (firstOf ts .number) (t .number) (first-absent (t .number) ts (both .0) h′) in
+        rw (q, ne-eqb (t .number) n (λ z. other (e′ ∙ sym z))) (rest (both .1) h′ e′)
 
 -- where none holds, number and place are 0
 pub first-none : (ts : List Test) → firstOf ts .holds ≡ false → firstOf ts ≡ record { holds = false; number = 0; place = 0 }
@@ -71,16 +76,13 @@ first-none (t ∷ ts) e = go (t .holds) refl (first-none ts)
     go true q rest = let z : true ≡ false = rw q at e in not-both true refl z
     go false q rest = rw q (rest (rw q at e))
 
--- so a test holds exactly where the number is not 0
-pub first-number : (ts : List Test) → rising 0 ts ≡ true → eqb (firstOf ts .number) 0 ≡ not (firstOf ts .holds)
-first-number ts up =
-    by-test (firstOf ts .holds)
-    (λ h. let l = first-above 0 ts up h in rw h (ne-eqb (firstOf ts .number) 0 (λ z. omega arith)))
-    (λ h. rw (first-none ts h))
+-- so, where no number is 0, a test holds exactly where the number is not 0
+pub first-number : (ts : List Test) → absent 0 ts ≡ true → eqb (firstOf ts .number) 0 ≡ not (firstOf ts .holds)
+first-number ts out = by-test (firstOf ts .holds) (λ h. rw h (first-absent 0 ts out h)) (λ h. rw (first-none ts h))
 
--- a number that is none of 1 to top, as the code tests it
+-- a number that is one of 1 to top, and one that is none, as the code tests it
 module _ (top r : ℕ) where
-  outside : (eqb r 0 || ltb top r) ≡ not (leb 1 r && leb r top)
+  pub outside : (eqb r 0 || ltb top r) ≡ not (leb 1 r && leb r top)
   outside =
       cases (eq-or-ne r 0)
       (λ e. rw e)
@@ -90,11 +92,14 @@ module _ (top r : ℕ) where
       (λ h. rw (ne-eqb r 0 n, le-leb 1 r one, lt-ltb top r h, lt-leb r top h))
       (λ h. rw (ne-eqb r 0 n, le-leb 1 r one, le-ltb top r h, le-leb r top h)))
 
-  pub inside : (eqb r 0 || ltb top r) ≡ false → (1 ≤ r) × (r ≤ top)
-  inside e =
-      let h : (leb 1 r && leb r top) ≡ true = not-false _ (sym outside ∙ e) in
+  pub within : not (leb 1 r && leb r top) ≡ false → (1 ≤ r) × (r ≤ top)
+  within e =
+      let h : (leb 1 r && leb r top) ≡ true = not-false _ e in
       let f = simp facts at h in
       omega arith
+
+  pub inside : (eqb r 0 || ltb top r) ≡ false → (1 ≤ r) × (r ≤ top)
+  inside e = within (sym outside ∙ e)
 
 -- some tests are left to decide what the whole is; `by` says what it comes to by the test that decides
 pub record Left {A : Type 0} (by : Test → A) (whole : A) (tests : List Test) : Type 0 where
@@ -115,38 +120,6 @@ module _ {A : Type 0} {by : Test → A} {whole : A} {n p : ℕ} {tests : List Te
 
     pub leave-met : not r ≡ false → Left by whole tests
     leave-met e = leave left (rw (test-holds found e))
-
-  -- tested with `if x != y`
-  module _ {x y : ℕ} (left : Left by whole (not (eqb x y) ⇒ n place p ∷ tests)) where
-    pub refuse-other : (x ≡ y → ⊥) → by (true ⇒ n place p) ≡ whole
-    refuse-other h = refuse left (rw (ne-eqb x y h))
-
-    pub leave-same : x ≡ y → Left by whole tests
-    leave-same h = leave left (rw (eq-eqb x y h))
-
-  -- tested with `if x < y`
-  module _ {x y : ℕ} (left : Left by whole (ltb x y ⇒ n place p ∷ tests)) where
-    pub refuse-above : x < y → by (true ⇒ n place p) ≡ whole
-    refuse-above h = refuse left (lt-ltb x y h)
-
-    pub leave-within : y ≤ x → Left by whole tests
-    leave-within h = leave left (le-ltb x y h)
-
-  -- tested with `if (r == 0) | (top < r)`
-  module _ (top r : ℕ) (left : Left by whole (not (leb 1 r && leb r top) ⇒ n place p ∷ tests)) where
-    pub refuse-outside : (eqb r 0 || ltb top r) ≡ true → by (true ⇒ n place p) ≡ whole
-    refuse-outside e = refuse left (sym (outside top r) ∙ e)
-
-    pub leave-inside : (eqb r 0 || ltb top r) ≡ false → Left by whole tests
-    leave-inside e = leave left (sym (outside top r) ∙ e)
-
-  -- tested with `if x == 0`, where more than 0 is asked for
-  module _ {x : ℕ} (left : Left by whole (not (ltb 0 x) ⇒ n place p ∷ tests)) where
-    pub refuse-zero : x ≡ 0 → by (true ⇒ n place p) ≡ whole
-    refuse-zero h = refuse left (rw h)
-
-    pub leave-some : (x ≡ 0 → ⊥) → Left by whole tests
-    leave-some h = let some : 0 < x = omega arith in leave left (rw (lt-ltb 0 x some))
 
 -- no test of the list names a place
 abbrev pub placeless : List Test → Bool

@@ -126,7 +126,7 @@ module _ (file : List ℕ) where
   named : (n : ℕ) → 1 ≤ n → verdict file .number ≡ n → (conditionOf n (loadTests file) ≡ true) × (verdict file .place ≡ placeNamed n (loadTests file))
   unfolding verdict
   named n some e =
-      by-test (verdict file .holds) (λ h. first-named n 0 (loadTests file) refl h e)
+      by-test (verdict file .holds) (λ h. first-named n (loadTests file) refl h e)
       (λ h. let z = ap (λ (t : Test). t .number) (first-none (loadTests file) h) in absurd (omega arith))
 
   -- THE CLAIM: the place is that of the least block, record, segment or route that breaks the rule

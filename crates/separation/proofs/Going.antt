@@ -1,7 +1,7 @@
 -- Each call of a list, done or refused, keeps what holds; none is answered 11, and none names a place.
 use Prim.Native.Nat.{ℕ, _≤_}
 use mathlib.Core.Path.{_≡_, refl, sym, ap, _∙_}
-use mathlib.Core.Bool.{true, false, not, _&&_}
+use mathlib.Core.Bool.{true, false, not, _&&_, and-eq-true-iff}
 use mathlib.Core.List.{List}
 use native.Mathlib.Omega.{arith}
 use lib.Dec.{leb, eqb}
@@ -9,7 +9,7 @@ use borrow.Author.Tests.{eqb-true, ltb-false, not-false}
 use Rattle.lists.specs.Words.{if_then_else_, at}
 use Rattle.lists.specs.Tests.{Test, firstOf, conditionOf}
 use Rattle.lists.proofs.Cases.{by-test, not-both, facts}
-use Rattle.lists.proofs.Refusals.{passed, rising, first-named, first-none, first-number, placeless, first-placeless}
+use Rattle.lists.proofs.Refusals.{passed, absent, apart, first-named, first-none, first-number, placeless, first-placeless}
 use Rattle.tables.specs.Facts.{Meets}
 use Rattle.tables.proofs.Consistency.{consistent}
 use Rattle.trains.specs.EnterLeave.{firstSegment}
@@ -40,17 +40,20 @@ module _ (a : Area) (h : History) (k : KeptIn a h) (M : Meets (a .tables)) where
   is-sound = kept-sound (a .tables) (a .allocations) (a .trains) (a .due) h k M
 
   -- a call is refused by the first of its tests that holds, or answered done
-  module _ (c : Call) (tests : List Test) (new : Area) (up : rising 0 tests ≡ true) (plain : placeless tests ≡ true) where
+  module _ (c : Call) (tests : List Test) (new : Area) (told : (absent 0 tests && apart tests) ≡ true) (plain : placeless tests ≡ true) where
+    numbers : (absent 0 tests ≡ true) × (apart tests ≡ true)
+    numbers = and-eq-true-iff (absent 0 tests) (apart tests) .0 told
+
     answer-number : numberOf (outcome tests new a .answer) ≡ firstOf tests .number
     answer-number = number-of-answer (firstOf tests .number) (firstOf tests .place)
 
     refused : firstOf tests .holds ≡ true → conditionOf 11 tests ≡ false → Went a h c (outcome tests new a)
     refused e s =
-        let named : isDone (outcome tests new a .answer) ≡ false = ap (λ (n : ℕ). eqb n 0) answer-number ∙ (first-number tests up ∙ rw e) in
+        let named : isDone (outcome tests new a .answer) ≡ false = ap (λ (n : ℕ). eqb n 0) answer-number ∙ (first-number tests (numbers .0) ∙ rw e) in
         record {
           tables = rw e;
           kept = rw (named, e) k;
-          notUnsound = λ q. not-both (conditionOf 11 tests) (first-named 11 0 tests up e (sym answer-number ∙ q) .0) s;
+          notUnsound = λ q. not-both (conditionOf 11 tests) (first-named 11 tests (numbers .1) e (sym answer-number ∙ q) .0) s;
           noPlace = place-of-answer (firstOf tests .number) (firstOf tests .place) (λ z. first-placeless tests plain) ∙ first-placeless tests plain;
         }
 

@@ -1,86 +1,97 @@
+-- The number of the first test that holds decides the outcome; where none does, the contracts of the taken segment and of the
+-- entered train make the record.
+use mathlib.Core.Path.{_≡_, refl, _∙_}
+use mathlib.Core.Bool.{false}
+use mathlib.Core.List.{List}
 use Prim.Native.Nat.{ℕ}
-use mathlib.Core.Path.{refl, _∙_}
 use native.Mathlib.Omega.{arith}
-use lib.ListN.{drop}
+use mir.Syntax.{w8}
+use mir.Val.{Fits}
 use borrow.Author.Needs.{needs}
+use Rattle.lists.specs.Tests.{Test, conditionOf}
+use Rattle.lists.proofs.Refusals.{within}
 use Rattle.trains.specs.Train.{mostTrains}
+use Rattle.area.specs.declared.Area.{Area}
 use Rattle.area.specs.Calls.{enterTests, afterEnter, enterCall}
-use Rattle.lists.proofs.Refusals.{refuse-broken, leave-met, refuse-outside, leave-inside, refuse-above, leave-within, inside}
-use Rattle.area.proofs.Laws.{LeftOutcome}
+use Rattle.area.proofs.Laws.{passed-by, refused-by, finished-by}
 use Rattle.area.proofs.Area.enter.Statement.{statement}
 use Rattle.area.proofs.Area.enter.Tie as tie
 
--- what is left after the first k tests
-abbrev After : ℕ → tie.Start → Type 0
-After k s =
-    let a = s .args .self in
-    let t = s .args .train in
-    let r = s .args .route in
-    let v = s .args .speed in
-    LeftOutcome (enterCall a t r v) (afterEnter a t r v) a (drop k (enterTests a t r v))
+abbrev tests : tie.Start → List Test
+tests s = let a = s .args in enterTests (a .self) (a .train) (a .route) (a .speed)
 
-left0 : (s : tie.Start) → After 0 s
-unfolding enterCall
-left0 s = record { decide = refl }
+abbrev new : tie.Start → Area
+new s = let a = s .args in afterEnter (a .self) (a .train) (a .route) (a .speed)
 
-left1 : (c : tie.Else1) → After 1 (c .before .before)
-left1 c = leave-met (c .before .sound .ensures) (left0 (c .before .before)) (c .if1 .left)
+test-passed : (c : tie.Else1) (n : ℕ) → conditionOf n (tests (c .before .before)) ≡ false
+test-passed c n = passed-by (tests (c .before .before)) (c .before .enter-refusal .ensures) refl (c .if1 .left) n
 
-left2 : (c : tie.Else2) → After 2 (c .before .before .before)
-left2 c = leave-inside mostTrains (c .before .before .before .args .train) (left1 (c .before)) (c .if2 .left)
+-- every test is passed before the record is read
+abbrev passed : tie.After-segment-at → tie.Else1
+passed c = c .before .before .before .before .before .before
 
-left3 : (c : tie.Else3) → After 3 (c .before .before .before .before .before .before .before)
-left3 c = leave-within (left2 (c .before .before .before .before)) (rw (c .before .before .train-at .ensures) at (c .if3 .left))
+enter-refusal-requires : tie.Need-enter-refusal-requires
+enter-refusal-requires c κs = search needs
 
-sound-requires : tie.Need-sound-requires
-sound-requires c κs = search needs
-
-refused-requires : tie.Need-refused-requires
-refused-requires c κs = search needs
+answered-requires : tie.Need-answered-requires
+answered-requires c κs = search needs
 
 returns : tie.Need-returns
-returns c = c .refused .ensures ∙ refuse-broken (c .before .before .sound .ensures) (left0 (c .before .before .before)) (c .before .if1 .taken)
-
-refused-requires-2 : tie.Need-refused-requires-2
-refused-requires-2 c κs = search needs
-
-returns-2 : tie.Need-returns-2
-returns-2 c =
-    let t = c .before .before .before .before .args .train in
-    c .refused2 .ensures ∙ refuse-outside mostTrains t (left1 (c .before .before)) (c .before .if2 .taken)
+unfolding enterCall
+returns c =
+    let n = c .before .before in
+    let s = n .before in
+    c .answered .ensures ∙ refused-by (tests s) (n .enter-refusal .ensures) (new s) (s .args .self) refl (c .before .if1 .taken)
 
 cast-t : tie.Need-cast-t
-cast-t c = let h = inside mostTrains (c .before .before .before .args .train) (c .if2 .left) in omega arith
+cast-t c = let h = within mostTrains (c .before .before .args .train) (test-passed c 13) in omega arith
 
-train-at-requires : tie.Need-train-at-requires
-train-at-requires c κs = search needs
+cast-r : tie.Need-cast-r
+cast-r c =
+    let a = c .before .before .args in
+    let fits : Fits w8 (a .self .tables .routes) = search needs in
+    let h = within (a .self .tables .routes) (a .route) (test-passed c 16) in
+    omega arith
 
-refused-requires-3 : tie.Need-refused-requires-3
-refused-requires-3 c κs = search needs
+segment-at-requires : tie.Need-segment-at-requires
+segment-at-requires c κs = search needs
 
-returns-3 : tie.Need-returns-3
-returns-3 c =
-    let x = c .before .before .before in
-    c .refused3 .ensures ∙ refuse-above (left2 (x .before .before)) (rw (x .train-at .ensures) at (c .before .if3 .taken))
+taken-all-requires : tie.Need-taken-all-requires
+taken-all-requires c κs = search needs
 
-enter-route-requires : tie.Need-enter-route-requires
-enter-route-requires c κs = search needs
+entered-train-requires : tie.Need-entered-train-requires
+entered-train-requires c κs = search needs
 
-returns-4 : tie.Need-returns-4
-returns-4 c = c .enter-route .ensures ∙ left3 (c .before) .decide
+with-train-requires : tie.Need-with-train-requires
+with-train-requires c κs = search needs
+
+answered-requires-2 : tie.Need-answered-requires-2
+answered-requires-2 c κs = search needs
+
+returns-2 : tie.Need-returns-2
+unfolding enterCall afterEnter
+returns-2 c =
+    let entered = c .before .before in
+    let taken = entered .before in
+    let first = taken .before in
+    let n = passed first .before in
+    let s = n .before in
+    c .answered2 .ensures
+    ∙ finished-by (tests s) (n .enter-refusal .ensures) (new s) (s .args .self) refl (passed first .if1 .left)
+    (simp (c .before .with-train .ensures, entered .entered-train .ensures, taken .taken-all .ensures, first .segment-at .ensures))
 
 pub enter-spec : {M : Type 1} → statement M
 enter-spec =
     tie.close
     (tie.spec
-    sound-requires
-    refused-requires
+    enter-refusal-requires
+    answered-requires
     returns
-    refused-requires-2
-    returns-2
     cast-t
-    train-at-requires
-    refused-requires-3
-    returns-3
-    enter-route-requires
-    returns-4)
+    cast-r
+    segment-at-requires
+    taken-all-requires
+    entered-train-requires
+    with-train-requires
+    answered-requires-2
+    returns-2)

@@ -1,42 +1,28 @@
-use Prim.Native.Nat.{ℕ}
+-- The number of the first test that holds decides the outcome; where none does, the contracts of the step's parts make its record.
 use mathlib.Core.Path.{refl, _∙_}
-use lib.ListN.{drop}
 use borrow.Author.Needs.{needs}
 use Rattle.trains.specs.Due.{grantDue}
 use Rattle.area.specs.Calls.{stepTests, afterGrant, grantCall}
-use Rattle.lists.proofs.Refusals.{refuse-broken, leave-met, refuse-other, leave-same}
-use Rattle.area.proofs.Laws.{LeftOutcome, finish}
+use Rattle.area.proofs.Laws.{refused-by, finished-by}
 use Rattle.area.proofs.Area.grant.Statement.{statement}
 use Rattle.area.proofs.Area.grant.Tie as tie
 
--- what is left after the first k tests
-abbrev After : ℕ → tie.Start → Type 0
-After k s = let a = s .args .self in LeftOutcome (grantCall a) (afterGrant a) a (drop k (stepTests grantDue a))
+-- every test is passed before the record is read
+abbrev passed : tie.After-before2 → tie.Else1
+passed c = c .before .before .before
 
-left0 : (s : tie.Start) → After 0 s
-unfolding grantCall
-left0 s = record { decide = refl }
+step-refusal-requires : tie.Need-step-refusal-requires
+step-refusal-requires c κs = search needs
 
-left1 : (c : tie.Else1) → After 1 (c .before .before)
-left1 c = leave-met (c .before .sound .ensures) (left0 (c .before .before)) (c .if1 .left)
-
-left2 : (c : tie.Else2) → After 2 (c .before .before .before .before)
-left2 c = leave-same (left1 (c .before .before)) (c .if2 .left)
-
-sound-requires : tie.Need-sound-requires
-sound-requires c κs = search needs
-
-refused-requires : tie.Need-refused-requires
-refused-requires c κs = search needs
+answered-requires : tie.Need-answered-requires
+answered-requires c κs = search needs
 
 returns : tie.Need-returns
-returns c = c .refused .ensures ∙ refuse-broken (c .before .before .sound .ensures) (left0 (c .before .before .before)) (c .before .if1 .taken)
-
-refused-requires-2 : tie.Need-refused-requires-2
-refused-requires-2 c κs = search needs
-
-returns-2 : tie.Need-returns-2
-returns-2 c = c .refused2 .ensures ∙ refuse-other (left1 (c .before .before .before)) (c .before .if2 .taken)
+unfolding grantCall
+returns c =
+    let n = c .before .before in
+    let a = n .before .args .self in
+    c .answered .ensures ∙ refused-by (stepTests grantDue a) (n .step-refusal .ensures) (afterGrant a) a refl (c .before .if1 .taken)
 
 granted-all-requires : tie.Need-granted-all-requires
 granted-all-requires c κs = search needs
@@ -44,25 +30,20 @@ granted-all-requires c κs = search needs
 calmed-all-requires : tie.Need-calmed-all-requires
 calmed-all-requires c κs = search needs
 
-done-requires : tie.Need-done-requires
-done-requires c κs = search needs
+answered-requires-2 : tie.Need-answered-requires-2
+answered-requires-2 c κs = search needs
 
-returns-3 : tie.Need-returns-3
-unfolding afterGrant
-returns-3 c =
-    let g = c .before .before in
-    c .done .ensures ∙ finish (left2 (g .before .before .before .before)) (simp (c .before .calmed-all .ensures, g .granted-all .ensures))
+returns-2 : tie.Need-returns-2
+unfolding grantCall afterGrant
+returns-2 c =
+    let made = c .before .before in
+    let p = passed (made .before) in
+    let n = p .before in
+    let a = n .before .args .self in
+    c .answered2 .ensures
+    ∙ finished-by (stepTests grantDue a) (n .step-refusal .ensures) (afterGrant a) a refl (p .if1 .left)
+    (simp (c .before .calmed-all .ensures, made .granted-all .ensures))
 
 pub grant-spec : {M : Type 1} → statement M
 grant-spec =
-    tie.close
-    (tie.spec
-    sound-requires
-    refused-requires
-    returns
-    refused-requires-2
-    returns-2
-    granted-all-requires
-    calmed-all-requires
-    done-requires
-    returns-3)
+    tie.close (tie.spec step-refusal-requires answered-requires returns granted-all-requires calmed-all-requires answered-requires-2 returns-2)

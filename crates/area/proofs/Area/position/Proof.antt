@@ -1,73 +1,56 @@
-use Prim.Native.Nat.{ℕ}
+-- As for every step; that the record is sound, test 11 passed, gives each train the room that its move asks for.
 use mathlib.Core.Path.{refl, _∙_}
-use lib.ListN.{drop}
+use borrow.Author.Tests.{not-false}
 use borrow.Author.Needs.{needs}
 use Rattle.trains.specs.Due.{positionDue}
 use Rattle.area.specs.Calls.{stepTests, afterPosition, positionCall}
-use Rattle.lists.proofs.Cases.{test-holds}
 use Rattle.lists.proofs.Numbered.{long-of}
-use Rattle.lists.proofs.Refusals.{refuse-broken, leave-met, refuse-other, leave-same}
-use Rattle.area.proofs.Laws.{LeftOutcome, finish}
+use Rattle.area.proofs.Laws.{passed-by, refused-by, finished-by}
 use Rattle.area.proofs.Soundness.{sound-iff, room-of}
 use Rattle.area.proofs.Area.position.Statement.{statement}
 use Rattle.area.proofs.Area.position.Tie as tie
 
--- what is left after the first k tests
-abbrev After : ℕ → tie.Start → Type 0
-After k s = let a = s .args .self in LeftOutcome (positionCall a) (afterPosition a) a (drop k (stepTests positionDue a))
+-- every test is passed before the record is read
+abbrev passed : tie.After-before2 → tie.Else1
+passed c = c .before .before .before
 
-left0 : (s : tie.Start) → After 0 s
-unfolding positionCall
-left0 s = record { decide = refl }
+step-refusal-requires : tie.Need-step-refusal-requires
+step-refusal-requires c κs = search needs
 
-left1 : (c : tie.Else1) → After 1 (c .before .before)
-left1 c = leave-met (c .before .sound .ensures) (left0 (c .before .before)) (c .if1 .left)
-
-left2 : (c : tie.Else2) → After 2 (c .before .before .before .before)
-left2 c = leave-same (left1 (c .before .before)) (c .if2 .left)
-
-sound-requires : tie.Need-sound-requires
-sound-requires c κs = search needs
-
-refused-requires : tie.Need-refused-requires
-refused-requires c κs = search needs
+answered-requires : tie.Need-answered-requires
+answered-requires c κs = search needs
 
 returns : tie.Need-returns
-returns c = c .refused .ensures ∙ refuse-broken (c .before .before .sound .ensures) (left0 (c .before .before .before)) (c .before .if1 .taken)
-
-refused-requires-2 : tie.Need-refused-requires-2
-refused-requires-2 c κs = search needs
-
-returns-2 : tie.Need-returns-2
-returns-2 c = c .refused2 .ensures ∙ refuse-other (left1 (c .before .before .before)) (c .before .if2 .taken)
+unfolding positionCall
+returns c =
+    let n = c .before .before in
+    let a = n .before .args .self in
+    c .answered .ensures ∙ refused-by (stepTests positionDue a) (n .step-refusal .ensures) (afterPosition a) a refl (c .before .if1 .taken)
 
 released-all-requires : tie.Need-released-all-requires
 released-all-requires c κs = search needs
 
 moved-all-requires : tie.Need-moved-all-requires
 moved-all-requires c κs =
-    let e = c .before .before .before .before .before .before in
-    room-of _ (sound-iff _ .0 (test-holds (e .before .sound .ensures) (e .if1 .left))) (search long-of)
+    let p = passed (c .before) in
+    let a = p .before .before .args .self in
+    let unsound = passed-by (stepTests positionDue a) (p .before .step-refusal .ensures) refl (p .if1 .left) 11 in
+    room-of a (sound-iff a .0 (not-false _ unsound)) (search long-of)
 
-done-requires : tie.Need-done-requires
-done-requires c κs = search needs
+answered-requires-2 : tie.Need-answered-requires-2
+answered-requires-2 c κs = search needs
 
-returns-3 : tie.Need-returns-3
-unfolding afterPosition
-returns-3 c =
-    let g = c .before .before in
-    c .done .ensures ∙ finish (left2 (g .before .before .before .before)) (simp (c .before .moved-all .ensures, g .released-all .ensures))
+returns-2 : tie.Need-returns-2
+unfolding positionCall afterPosition
+returns-2 c =
+    let made = c .before .before in
+    let p = passed (made .before) in
+    let n = p .before in
+    let a = n .before .args .self in
+    c .answered2 .ensures
+    ∙ finished-by (stepTests positionDue a) (n .step-refusal .ensures) (afterPosition a) a refl (p .if1 .left)
+    (simp (c .before .moved-all .ensures, made .released-all .ensures))
 
 pub position-spec : {M : Type 1} → statement M
 position-spec =
-    tie.close
-    (tie.spec
-    sound-requires
-    refused-requires
-    returns
-    refused-requires-2
-    returns-2
-    released-all-requires
-    moved-all-requires
-    done-requires
-    returns-3)
+    tie.close (tie.spec step-refusal-requires answered-requires returns released-all-requires moved-all-requires answered-requires-2 returns-2)

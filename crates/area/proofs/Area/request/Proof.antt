@@ -1,53 +1,39 @@
-use Prim.Native.Nat.{ℕ}
 use mathlib.Core.Path.{refl, _∙_}
-use lib.ListN.{drop}
 use borrow.Author.Needs.{needs}
 use Rattle.trains.specs.Due.{requestDue}
 use Rattle.area.specs.Calls.{stepTests, afterRequest, requestCall}
-use Rattle.lists.proofs.Refusals.{refuse-broken, leave-met, refuse-other, leave-same}
-use Rattle.area.proofs.Laws.{LeftOutcome, finish}
+use Rattle.area.proofs.Laws.{refused-by, finished-by}
 use Rattle.area.proofs.Area.request.Statement.{statement}
 use Rattle.area.proofs.Area.request.Tie as tie
 
--- what is left after the first k tests
-abbrev After : ℕ → tie.Start → Type 0
-After k s = let a = s .args .self in LeftOutcome (requestCall a) (afterRequest a) a (drop k (stepTests requestDue a))
+step-refusal-requires : tie.Need-step-refusal-requires
+step-refusal-requires c κs = search needs
 
-left0 : (s : tie.Start) → After 0 s
-unfolding requestCall
-left0 s = record { decide = refl }
-
-left1 : (c : tie.Else1) → After 1 (c .before .before)
-left1 c = leave-met (c .before .sound .ensures) (left0 (c .before .before)) (c .if1 .left)
-
-left2 : (c : tie.Else2) → After 2 (c .before .before .before .before)
-left2 c = leave-same (left1 (c .before .before)) (c .if2 .left)
-
-sound-requires : tie.Need-sound-requires
-sound-requires c κs = search needs
-
-refused-requires : tie.Need-refused-requires
-refused-requires c κs = search needs
+answered-requires : tie.Need-answered-requires
+answered-requires c κs = search needs
 
 returns : tie.Need-returns
-returns c = c .refused .ensures ∙ refuse-broken (c .before .before .sound .ensures) (left0 (c .before .before .before)) (c .before .if1 .taken)
-
-refused-requires-2 : tie.Need-refused-requires-2
-refused-requires-2 c κs = search needs
-
-returns-2 : tie.Need-returns-2
-returns-2 c = c .refused2 .ensures ∙ refuse-other (left1 (c .before .before .before)) (c .before .if2 .taken)
+unfolding requestCall
+returns c =
+    let n = c .before .before in
+    let a = n .before .args .self in
+    c .answered .ensures ∙ refused-by (stepTests requestDue a) (n .step-refusal .ensures) (afterRequest a) a refl (c .before .if1 .taken)
 
 requested-all-requires : tie.Need-requested-all-requires
 requested-all-requires c κs = search needs
 
-done-requires : tie.Need-done-requires
-done-requires c κs = search needs
+answered-requires-2 : tie.Need-answered-requires-2
+answered-requires-2 c κs = search needs
 
-returns-3 : tie.Need-returns-3
-unfolding afterRequest
-returns-3 c = c .done .ensures ∙ finish (left2 (c .before .before .before .before .before)) (simp (c .before .requested-all .ensures))
+returns-2 : tie.Need-returns-2
+unfolding requestCall afterRequest
+returns-2 c =
+    let passed = c .before .before .before .before .before in
+    let n = passed .before in
+    let a = n .before .args .self in
+    c .answered2 .ensures
+    ∙ finished-by (stepTests requestDue a) (n .step-refusal .ensures) (afterRequest a) a refl (passed .if1 .left) (simp (c .before .requested-all .ensures))
 
 pub request-spec : {M : Type 1} → statement M
 request-spec =
-    tie.close (tie.spec sound-requires refused-requires returns refused-requires-2 returns-2 requested-all-requires done-requires returns-3)
+    tie.close (tie.spec step-refusal-requires answered-requires returns requested-all-requires answered-requires-2 returns-2)

@@ -1,77 +1,48 @@
-use Prim.Native.Nat.{ℕ}
+-- The number of the first test that holds decides the outcome; where none does, the contract of the new speeds makes the record.
 use mathlib.Core.Path.{refl, _∙_}
 use mathlib.Core.List.{List}
-use lib.ListN.{drop}
-use borrow.Author.Needs.{needs}
+use Prim.Native.Nat.{ℕ}
 use denote.Ref.{now}
+use borrow.Author.Needs.{needs}
 use Rattle.area.specs.Calls.{speedTests, afterSpeed, speedCall}
-use Rattle.lists.proofs.Refusals.{refuse-broken, leave-met, refuse-other, leave-same}
-use Rattle.area.proofs.Laws.{LeftOutcome, finish}
+use Rattle.area.proofs.Laws.{refused-by, finished-by}
 use Rattle.area.proofs.Area.speed.Statement.{statement}
 use Rattle.area.proofs.Area.speed.Tie as tie
 
--- what is left after the first k tests
-abbrev After : ℕ → tie.Start → Type 0
-After k s =
-    let a = s .args .self in
-    let wishes : List ℕ = now (s .args .wishes) in
-    LeftOutcome (speedCall a wishes) (afterSpeed a wishes) a (drop k (speedTests a wishes))
+abbrev wishes : tie.Start → List ℕ
+wishes s = now (s .args .wishes)
 
-left0 : (s : tie.Start) → After 0 s
-unfolding speedCall
-left0 s = record { decide = refl }
+speed-refusal-requires : tie.Need-speed-refusal-requires
+speed-refusal-requires c κs = search needs
 
-left1 : (c : tie.Else1) → After 1 (c .before .before .before)
-left1 c = leave-met (c .before .sound .ensures) (left0 (c .before .before .before)) (c .if1 .left)
-
-left2 : (c : tie.Else2) → After 2 (c .before .before .before .before .before)
-left2 c = leave-same (left1 (c .before .before)) (c .if2 .left)
-
-left3 : (c : tie.Else3) → After 3 (c .before .before .before .before .before .before)
-left3 c = leave-same (left2 (c .before)) (c .if3 .left)
-
-sound-requires : tie.Need-sound-requires
-sound-requires c κs = search needs
-
-refused-requires : tie.Need-refused-requires
-refused-requires c κs = search needs
+answered-requires : tie.Need-answered-requires
+answered-requires c κs = search needs
 
 returns : tie.Need-returns
-returns c = c .refused .ensures ∙ refuse-broken (c .before .before .sound .ensures) (left0 (c .before .before .before .before)) (c .before .if1 .taken)
-
-refused-requires-2 : tie.Need-refused-requires-2
-refused-requires-2 c κs = search needs
-
-returns-2 : tie.Need-returns-2
-returns-2 c = c .refused2 .ensures ∙ refuse-other (left1 (c .before .before .before)) (c .before .if2 .taken)
-
-refused-requires-3 : tie.Need-refused-requires-3
-refused-requires-3 c κs = search needs
-
-returns-3 : tie.Need-returns-3
-returns-3 c = c .refused3 .ensures ∙ refuse-other (left2 (c .before .before)) (c .before .if3 .taken)
+unfolding speedCall
+returns c =
+    let n = c .before .before in
+    let s = n .before .before in
+    let a = s .args .self in
+    c .answered .ensures ∙ refused-by (speedTests a (wishes s)) (n .speed-refusal .ensures) (afterSpeed a (wishes s)) a refl (c .before .if1 .taken)
 
 sped-all-requires : tie.Need-sped-all-requires
 sped-all-requires c κs = search needs
 
-done-requires : tie.Need-done-requires
-done-requires c κs = search needs
+answered-requires-2 : tie.Need-answered-requires-2
+answered-requires-2 c κs = search needs
 
-returns-4 : tie.Need-returns-4
-unfolding afterSpeed
-returns-4 c = c .done .ensures ∙ finish (left3 (c .before .before .before .before .before)) (simp (c .before .sped-all .ensures))
+returns-2 : tie.Need-returns-2
+unfolding speedCall afterSpeed
+returns-2 c =
+    let passed = c .before .before .before .before .before in
+    let n = passed .before in
+    let s = n .before .before in
+    let a = s .args .self in
+    c .answered2 .ensures
+    ∙ finished-by (speedTests a (wishes s)) (n .speed-refusal .ensures) (afterSpeed a (wishes s)) a refl (passed .if1 .left)
+    (simp (c .before .sped-all .ensures))
 
 pub speed-spec : {M : Type 1} → statement M
 speed-spec =
-    tie.close
-    (tie.spec
-    sound-requires
-    refused-requires
-    returns
-    refused-requires-2
-    returns-2
-    refused-requires-3
-    returns-3
-    sped-all-requires
-    done-requires
-    returns-4)
+    tie.close (tie.spec speed-refusal-requires answered-requires returns sped-all-requires answered-requires-2 returns-2)

@@ -1,0 +1,84 @@
+-- Each test that the code has passed is false in the list, and the one that it answers with is true.
+use mathlib.Core.Path.{_≡_, sym, _∙_}
+use mathlib.Core.Bool.{Bool, true, false, _&&_}
+use native.Mathlib.Omega.{arith}
+use Prim.Native.Nat.{_<_}
+use borrow.Author.Tests.{lt-ltb}
+use borrow.Author.Needs.{needs}
+use Rattle.lists.proofs.Cases.{test-fails, test-holds}
+use Rattle.lists.proofs.Refusals.{outside, inside}
+use Rattle.trains.specs.declared.Train.{Train}
+use Rattle.trains.specs.Train.{mostTrains, trainAt, isOn, ownOf}
+use Rattle.trains.specs.EnterLeave.{isExit, isLast}
+use Rattle.area.specs.declared.Area.{Area}
+use Rattle.area.specs.Sound.{sound}
+use Rattle.area.specs.Calls.{noTrain}
+use Rattle.area.proofs.leave_refusal.Statement.{statement}
+use Rattle.area.proofs.leave_refusal.Tie as tie
+
+is-sound : (c : tie.Else1) → sound (c .before .before .args .t1) ≡ true
+is-sound c = test-holds (c .before .sound .ensures) (c .if1 .left)
+
+abbrev start : tie.Else2 → tie.Start
+start c = c .before .before .before
+
+numbered : (c : tie.Else2) → noTrain (start c .args .train) ≡ false
+numbered c = sym (outside mostTrains (start c .args .train)) ∙ c .if2 .left
+
+-- the train, once it is read
+abbrev known : tie.After-train-at → tie.Else2
+known c = c .before .before
+
+abbrev train : tie.Else2 → Train
+train c = trainAt (start c .args .t1 .trains) (start c .args .train)
+
+is-on : (c : tie.Else3) → isOn (train (known (c .before .before))) ≡ true
+is-on c = let on : 0 < c .before .before .train-at .result .route = omega (arith, c .if3 .left) in rw (c .before .before .train-at .ensures) at (lt-ltb _ _ on)
+
+abbrev tried : tie.After-at-exit → tie.Else3
+tried c = c .before .before .before .before
+
+exit-found :
+    (c : tie.After-at-exit) → let e = known (tried c .before .before) in let T = start e .args .t1 .tables in
+    c .at-exit .result ≡ (isLast T (train e) && isExit T (ownOf T (train e)))
+exit-found c = rw (tried c .before .before .train-at .ensures) at (c .at-exit .ensures)
+
+sound-requires : tie.Need-sound-requires
+sound-requires c κs = search needs
+
+returns : tie.Need-returns
+returns c = rw (test-fails (c .before .sound .ensures) (c .if1 .taken))
+
+returns-2 : tie.Need-returns-2
+returns-2 c = rw (is-sound (c .before), sym (outside mostTrains (c .before .before .before .args .train)) ∙ c .if2 .taken)
+
+cast-train-at : tie.Need-cast-train-at
+cast-train-at c = let h = inside mostTrains (start (c .before) .args .train) (c .before .if2 .left) in omega arith
+
+train-at-requires : tie.Need-train-at-requires
+train-at-requires c κs = search needs
+
+returns-3 : tie.Need-returns-3
+returns-3 c =
+    let x = c .before .before in
+    rw (is-sound (known x .before), numbered (known x), rw (x .train-at .ensures) at (c .if3 .taken))
+
+at-exit-requires : tie.Need-at-exit-requires
+at-exit-requires c κs = search needs
+
+returns-4 : tie.Need-returns-4
+returns-4 c =
+    let d = tried (c .before) in
+    let e = known (d .before .before) in
+    rw (is-sound (e .before), numbered e, is-on d, test-fails (exit-found (c .before)) (c .if4 .taken))
+
+returns-5 : tie.Need-returns-5
+returns-5 c =
+    let d = tried (c .before) in
+    let e = known (d .before .before) in
+    rw (is-sound (e .before), numbered e, is-on d, test-holds (exit-found (c .before)) (c .if4 .left))
+
+pub leave-refusal-spec : {M : Type 1} → statement M
+leave-refusal-spec =
+    tie.close
+    (tie.spec sound-requires returns returns-2 cast-train-at train-at-requires returns-3 at-exit-requires returns-4 returns-5)
