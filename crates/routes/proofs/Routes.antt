@@ -9,7 +9,7 @@ use native.Mathlib.Omega.{arith}
 use lib.Dec.{leb, eqb}
 use borrow.Author.Tests.{not-true, le-leb, lt-leb, eq-eqb, ne-eqb}
 use Rattle.lists.specs.Words.{every}
-use Rattle.lists.proofs.Cases.{by-test, either-yes, test-fails, test-holds, and-iff, facts}
+use Rattle.lists.proofs.Cases.{either-yes, test-fails, test-holds, facts}
 use Rattle.lists.proofs.Loops.{every-none, every-first, every-more, every-fails, every-all}
 use Rattle.tables.specs.Bounds.{longestRoute}
 use Rattle.tables.specs.Tables.{linksTo, countOf, segmentAt}
@@ -76,8 +76,8 @@ module _ (next routebytes : List ℕ) (n r : ℕ) where
 
   -- it begins at the first place
   module _ {count before : ℕ} (counted : Counted count) (read : before ≡ segmentAt routebytes r 1) where
-    number-read : (leb 1 before && leb before n) ≡ numberIn routebytes n r 1
-    number-read = rw read
+    number-first : (leb 1 before && leb before n) ≡ numberIn routebytes n r 1
+    number-first = rw read
 
     pub walk-begin : not (leb 1 before && leb before n) ≡ false → Walked count before 1
     walk-begin t =
@@ -87,13 +87,13 @@ module _ (next routebytes : List ℕ) (n r : ℕ) where
           from = omega arith;
           most = omega arith;
           here = read;
-          numbers = every-more (numberIn routebytes n r) 0 (every-none _) (test-holds number-read t);
+          numbers = every-more (numberIn routebytes n r) 0 (every-none _) (test-holds number-first t);
           steps = every-none _;
         }
 
-    pub walk-stops : not (leb 1 before && leb before n) ≡ true → false ≡ usedRouteOk next routebytes n r
-    walk-stops t =
-        let f = simp facts at (counted .bounds) in bad-number (counted .read) 1 (omega arith) (omega arith) (test-fails number-read t)
+    pub first-fails : not (leb 1 before && leb before n) ≡ true → false ≡ usedRouteOk next routebytes n r
+    first-fails t =
+        let f = simp facts at (counted .bounds) in bad-number (counted .read) 1 (omega arith) (omega arith) (test-fails number-first t)
 
   module _ {count before p : ℕ} (walked : Walked count before p) where
     pub walk-over : count ≤ p → true ≡ usedRouteOk next routebytes n r
@@ -103,27 +103,30 @@ module _ (next routebytes : List ℕ) (n r : ℕ) where
         let e : p ≡ count = omega arith in
         rw (k .rest, ← k .read, k .bounds, rw e at (walked .numbers), rw e at (walked .steps))
 
-    -- `linked` is what the code found of the link to the segment at the next place
-    module _ {segment : ℕ} {linked : Bool} (below : p < count) (read : segment ≡ segmentAt routebytes r (p + 1)) (found : linked ≡ linksTo next before segment) where
-      step-read : (leb 1 segment && leb segment n && linked) ≡ (numberIn routebytes n r (p + 1) && stepIn next routebytes r p)
-      step-read = rw (found, read, walked .here)
+    module _ {segment : ℕ} (below : p < count) (read : segment ≡ segmentAt routebytes r (p + 1)) where
+      number-next : (leb 1 segment && leb segment n) ≡ numberIn routebytes n r (p + 1)
+      number-next = rw read
 
-      pub walk-more : not (leb 1 segment && leb segment n && linked) ≡ false → Walked count segment (p + 1)
-      walk-more t =
-          let f = and-iff (numberIn routebytes n r (p + 1)) (stepIn next routebytes r p) .0 (test-holds step-read t) in
-          let up : p - 1 + 1 ≡ p = omega arith in
-          let down : p + 1 - 1 ≡ p = omega arith in
-          record {
-            counted = walked .counted;
-            from = omega arith;
-            most = omega arith;
-            here = read;
-            numbers = every-more _ p (walked .numbers) (f .0);
-            steps = rw down (rw up at (every-more (stepIn next routebytes r) (p - 1) (walked .steps) (rw up (f .1))));
-          }
+      pub number-fails : not (leb 1 segment && leb segment n) ≡ true → false ≡ usedRouteOk next routebytes n r
+      number-fails t = bad-number (walked .counted .read) (p + 1) (omega arith) (omega arith) (test-fails number-next t)
 
-      pub walk-fails : not (leb 1 segment && leb segment n && linked) ≡ true → false ≡ usedRouteOk next routebytes n r
-      walk-fails t =
-          let counted = walked .counted .read in
-          by-test (numberIn routebytes n r (p + 1)) (λ e. bad-step counted p (walked .from) below (rw e at (test-fails step-read t)))
-          (λ e. bad-number counted (p + 1) (omega arith) (omega arith) e)
+      -- `linked` is what the code found of the link to the segment at the next place
+      module _ {linked : Bool} (found : linked ≡ linksTo next before segment) where
+        step-next : linked ≡ stepIn next routebytes r p
+        step-next = rw (← walked .here, ← read) found
+
+        pub step-fails : not linked ≡ true → false ≡ usedRouteOk next routebytes n r
+        step-fails t = bad-step (walked .counted .read) p (walked .from) below (test-fails step-next t)
+
+        pub walk-more : not (leb 1 segment && leb segment n) ≡ false → not linked ≡ false → Walked count segment (p + 1)
+        walk-more number step =
+            let up : p - 1 + 1 ≡ p = omega arith in
+            let down : p + 1 - 1 ≡ p = omega arith in
+            record {
+              counted = walked .counted;
+              from = omega arith;
+              most = omega arith;
+              here = read;
+              numbers = every-more (numberIn routebytes n r) p (walked .numbers) (test-holds number-next number);
+              steps = rw down (rw up at (every-more (stepIn next routebytes r) (p - 1) (walked .steps) (rw up (test-holds step-next step))));
+            }

@@ -53,7 +53,10 @@ fn used_route_ok<'a>(next: &'a [u8; 124], routebytes: &'a [u8; 960], n: u8, r: u
     while p < count {
         p += 1;
         let segment = route_byte(routebytes, r, p);
-        if !((1 <= segment) & (segment <= n) & links_to(next, before, segment)) {
+        if !((1 <= segment) & (segment <= n)) {
+            return false;
+        }
+        if !links_to(next, before, segment) {
             return false;
         }
         before = segment;

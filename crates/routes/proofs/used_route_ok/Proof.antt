@@ -5,7 +5,7 @@ use borrow.Author.Needs.{needs}
 use borrow.Author.Tests.{not-false}
 use denote.Ref.{now}
 use Rattle.lists.proofs.Cases.{test-fails, test-holds, facts}
-use Rattle.routes.proofs.Routes.{bad-count, bad-rest, Counted, Walked, walk-begin, walk-stops, walk-more, walk-fails, walk-over}
+use Rattle.routes.proofs.Routes.{bad-count, bad-rest, Counted, Walked, walk-begin, first-fails, walk-more, number-fails, step-fails, walk-over}
 use Rattle.routes.proofs.used_route_ok.Statement.{statement}
 use Rattle.routes.proofs.used_route_ok.Tie as tie
 
@@ -36,7 +36,7 @@ route-byte-requires : tie.Need-route-byte-requires Inv-loop μ-loop
 route-byte-requires c κs = omega arith
 
 returns-3 : tie.Need-returns-3 Inv-loop μ-loop
-returns-3 c = walk-stops _ _ _ _ (counted (c .before .before)) (c .before .route-byte .ensures) (c .if3 .taken)
+returns-3 c = first-fails _ _ _ _ (counted (c .before .before)) (c .before .route-byte .ensures) (c .if3 .taken)
 
 loop-holds : tie.Need-loop-holds Inv-loop μ-loop
 loop-holds c = walk-begin _ _ _ _ (counted (c .before .before)) (c .before .route-byte .ensures) (c .if3 .left)
@@ -47,24 +47,35 @@ add-p c = omega arith
 route-byte-requires-2 : tie.Need-route-byte-requires-2 Inv-loop μ-loop
 route-byte-requires-2 c κs = let f = simp facts at (c .before .loop .inv .counted .bounds) in omega arith
 
+returns-4 : tie.Need-returns-4 Inv-loop μ-loop
+returns-4 c =
+    let l = c .before .before in
+    number-fails _ _ _ _ (l .before .loop .inv) (l .loop-test .taken) (c .before .route-byte2 .ensures) (c .if4 .taken)
+
 links-to-requires : tie.Need-links-to-requires Inv-loop μ-loop
 links-to-requires c κs = search needs
 
-returns-4 : tie.Need-returns-4 Inv-loop μ-loop
-returns-4 c =
-    let l = c .before .before .before in
-    walk-fails _ _ _ _ (l .before .loop .inv) (l .loop-test .taken) (c .before .before .route-byte2 .ensures) (c .before .links-to .ensures) (c .if4 .taken)
+-- in a turn of the loop, after the next number is read
+abbrev turn : tie.After-links-to Inv-loop μ-loop → tie.After-route-byte2 Inv-loop μ-loop
+turn c = c .before .before
+
+returns-5 : tie.Need-returns-5 Inv-loop μ-loop
+returns-5 c =
+    let t = turn (c .before) in
+    let l = t .before in
+    step-fails _ _ _ _ (l .before .loop .inv) (l .loop-test .taken) (t .route-byte2 .ensures) (c .before .links-to .ensures) (c .if5 .taken)
 
 loop-less : tie.Need-loop-less Inv-loop μ-loop
 loop-less c = omega arith
 
 loop-again : tie.Need-loop-again Inv-loop μ-loop
 loop-again c =
-    let l = c .before .before .before in
-    walk-more _ _ _ _ (l .before .loop .inv) (l .loop-test .taken) (c .before .before .route-byte2 .ensures) (c .before .links-to .ensures) (c .if4 .left)
+    let t = turn (c .before) in
+    let l = t .before in
+    walk-more _ _ _ _ (l .before .loop .inv) (l .loop-test .taken) (t .route-byte2 .ensures) (c .before .links-to .ensures) (c .before .before .if4 .left) (c .if5 .left)
 
-returns-5 : tie.Need-returns-5 Inv-loop μ-loop
-returns-5 c = walk-over _ _ _ _ (c .before .loop .inv) (c .loop-test .left)
+returns-6 : tie.Need-returns-6 Inv-loop μ-loop
+returns-6 c = walk-over _ _ _ _ (c .before .loop .inv) (c .loop-test .left)
 
 pub used-route-ok-spec : {M : Type 1} → statement M
 used-route-ok-spec =
@@ -81,8 +92,9 @@ used-route-ok-spec =
     loop-holds
     add-p
     route-byte-requires-2
-    links-to-requires
     returns-4
+    links-to-requires
+    returns-5
     loop-less
     loop-again
-    returns-5)
+    returns-6)
