@@ -102,7 +102,8 @@ module _ (file : List ℕ) where
       let r1 = eq-eqb (length file) fileSize (m .size) in
       let r2 = no-block′ (λ (k : ℕ). intact (block file k)) (m .checks) in
       let r3 = no-block′ (λ (k : ℕ). filed (block file k) k) (m .tails) in
-      let r6 = nowhere′ mostSegments (recordOk file T) (λ s low high. and-iff (segmentOk T s) (reserved file s) .1 (t .segment s low high, m .zeros s low high)) in
+      let r6 = nowhere′ mostSegments (recordOk file T)
+      (λ s low high. and-iff (segmentOk T s) (reserved file s) .1 (t .segment s low high, m .zeros s low high)) in
       let r7 = nowhere′ (T .segments) (jointOk T) (t .joint) in
       let r8 = nowhere′ (T .segments) (orderOk T) (t .order) in
       let r9 = nowhere′ (T .segments) (dropOk T) (t .drop) in

@@ -6,7 +6,7 @@ use mathlib.Core.Logic.{inr}
 use mathlib.Core.List.{List}
 use mathlib.Core.Bool.{Bool, true, false, not, _&&_, and-false}
 use native.Mathlib.Omega.{arith}
-use lib.Dec.{leb, eqb}
+use lib.Dec.{leb}
 use borrow.Author.Tests.{not-true, le-leb, lt-leb, eq-eqb, ne-eqb}
 use Rattle.lists.specs.Words.{every}
 use Rattle.lists.proofs.Cases.{either-yes, test-fails, test-holds, facts}
@@ -30,6 +30,12 @@ module _ (routebytes : List ℕ) (r : ℕ) where
 
   pub rest-other : (p : ℕ) → countOf routebytes r < p → (segmentAt routebytes r p ≡ 0 → ⊥) → restIn routebytes r p ≡ false
   rest-other p above ne = rw (lt-leb p (countOf routebytes r) above, ne-eqb _ _ ne)
+
+  -- count and rest are as they should be
+  pub record Counted (count : ℕ) : Type 0 where
+    pub read : count ≡ countOf routebytes r
+    pub bounds : (leb 1 count && leb count longestRoute) ≡ true
+    pub rest : every longestRoute (restIn routebytes r) ≡ true
 
   -- byte k of the record is zero, counted from 1
   abbrev pub blankIn : ℕ → Bool
@@ -59,15 +65,9 @@ module _ (next routebytes : List ℕ) (n r : ℕ) where
     unfolding usedRouteOk
     bad-step p low high e = rw (← counted, every-fails (stepIn next routebytes r) (count - 1) p low (omega arith) e, and-false)
 
-  -- count and rest are as they should be
-  pub record Counted (count : ℕ) : Type 0 where
-    pub read : count ≡ countOf routebytes r
-    pub bounds : (leb 1 count && leb count longestRoute) ≡ true
-    pub rest : every longestRoute (restIn routebytes r) ≡ true
-
   -- a walk along the places: the numbers up to place p and the steps between them hold, and `before` is the segment there
   pub record Walked (count before p : ℕ) : Type 0 where
-    pub counted : Counted count
+    pub counted : Counted routebytes r count
     pub from : 1 ≤ p
     pub most : p ≤ count
     pub here : before ≡ segmentAt routebytes r p
@@ -75,7 +75,7 @@ module _ (next routebytes : List ℕ) (n r : ℕ) where
     pub steps : every (p - 1) (stepIn next routebytes r) ≡ true
 
   -- it begins at the first place
-  module _ {count before : ℕ} (counted : Counted count) (read : before ≡ segmentAt routebytes r 1) where
+  module _ {count before : ℕ} (counted : Counted routebytes r count) (read : before ≡ segmentAt routebytes r 1) where
     number-first : (leb 1 before && leb before n) ≡ numberIn routebytes n r 1
     number-first = rw read
 

@@ -15,7 +15,9 @@ Inv-loop next routebytes n r count before₀ p₀ before p = Walked next routeby
 abbrev μ-loop : tie.MeasureT-loop
 μ-loop next routebytes n r count before₀ p₀ before p = count - p
 
-counted : (c : tie.Else2 Inv-loop μ-loop) → let a = c .before .before .before .before .args in Counted (now (a .next)) (now (a .routebytes)) (a .n) (a .r) (c .before .before .before .count-of .result)
+counted :
+    (c : tie.Else2 Inv-loop μ-loop)
+    → let e = c .before .before .before in Counted (now (e .before .args .routebytes)) (e .before .args .r) (e .count-of .result)
 counted c =
     let e = c .before .before in
     record { read = e .before .count-of .ensures; bounds = not-false _ (e .if1 .left); rest = test-holds (c .before .rest-zero .ensures) (c .if2 .left) }
@@ -72,7 +74,8 @@ loop-again : tie.Need-loop-again Inv-loop μ-loop
 loop-again c =
     let t = turn (c .before) in
     let l = t .before in
-    walk-more _ _ _ _ (l .before .loop .inv) (l .loop-test .taken) (t .route-byte2 .ensures) (c .before .links-to .ensures) (c .before .before .if4 .left) (c .if5 .left)
+    walk-more _ _ _ _ (l .before .loop .inv) (l .loop-test .taken) (t .route-byte2 .ensures) (c .before .links-to .ensures)
+    (c .before .before .if4 .left) (c .if5 .left)
 
 returns-6 : tie.Need-returns-6 Inv-loop μ-loop
 returns-6 c = walk-over _ _ _ _ (c .before .loop .inv) (c .loop-test .left)

@@ -26,7 +26,11 @@ first-bad-segment-spec =
     (λ c. omega arith)
     (λ c κs. search needs)
     (λ c κs. search needs)
-    (λ c. scan-found (c .before .before .before .before .loop .inv) (c .before .before .before .loop-test .taken) (rw (c .before .before .row-of .ensures) at (c .before .row-ok .ensures)) (c .if1 .taken))
+    (λ c.
+    let l = c .before .before .before in
+    scan-found (l .before .loop .inv) (l .loop-test .taken) (rw (c .before .before .row-of .ensures) at (c .before .row-ok .ensures)) (c .if1 .taken))
     (λ c. omega arith)
-    (λ c. scan-more (c .before .before .before .before .loop .inv) (c .before .before .before .loop-test .taken) (rw (c .before .before .row-of .ensures) at (c .before .row-ok .ensures)) (c .if1 .left))
+    (λ c.
+    let l = c .before .before .before in
+    scan-more (l .before .loop .inv) (l .loop-test .taken) (rw (c .before .before .row-of .ensures) at (c .before .row-ok .ensures)) (c .if1 .left))
     (λ c. scan-over (c .before .loop .inv) (c .loop-test .left)))
