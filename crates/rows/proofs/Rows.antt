@@ -15,6 +15,7 @@ use Rattle.trains.specs.Sound.{placeSound, toRun, brakingSound, askingSound, st
 use Rattle.answers.specs.declared.Answer.the-variants.{Done, Refused}
 use Rattle.answers.specs.Answers.{answerOf, numberOf}
 use Rattle.loading.specs.Load.{fresh, loaded}
+use Rattle.area.specs.declared.Area.{Area}
 use Rattle.area.specs.Sound.{sound}
 use Rattle.area.specs.Calls.{afterEnter, enterCall, afterPosition, positionCall}
 use Rattle.reading.proofs.Accepted.{accepted-iff}
@@ -75,9 +76,14 @@ entered-A =
     rw (fresh-sound A (accepted-iff A .1 (done-iff A .0 loaded-A)))
     (unfold fresh in rw tables (unfold tablesOf segmentAt nth in refl))
 
+one-call : (a : Area) → afterFrom (begin a) (Enter 1 1 250 ∷ []) ≡ worldBy (begin a) (Enter 1 1 250) (enterCall a 1 1 250)
+unfolding afterFrom next called begin
+one-call a = refl
+
 run-A : after A (Enter 1 1 250 ∷ []) ≡ worldBy (begin (fresh (decoded A))) (Enter 1 1 250) (record { answer = Done; area = afterEnter (fresh (decoded A)) 1 1 250 })
-unfolding afterFrom next called
-run-A = from-fresh A loaded-A (Enter 1 1 250 ∷ []) ∙ ap (worldBy (begin (fresh (decoded A))) (Enter 1 1 250)) entered-A
+run-A =
+    from-fresh A loaded-A (Enter 1 1 250 ∷ [])
+    ∙ (one-call (fresh (decoded A)) ∙ ap (worldBy (begin (fresh (decoded A))) (Enter 1 1 250)) entered-A)
 
 first-A : at (afterEnter (fresh (decoded A)) 1 1 250 .allocations) 1 ≡ 1
 unfolding afterEnter fresh each nth
