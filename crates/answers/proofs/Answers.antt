@@ -15,9 +15,10 @@ module _ (number place : ℕ) where
   unfolding answerOf
   answer-refused n = rw (ne-eqb number 0 n)
 
+  -- THE CLAIM: an answer has the number that it was made of: 0 is done, any other a refusal
   pub number-of-answer : numberOf (answerOf number place) ≡ number
   number-of-answer = cases (eq-or-ne number 0) (λ e. rw (answer-done e, e)) (λ n. rw (answer-refused n))
 
-  -- done names no place
+  -- THE CLAIM: an answer has the place that it was made of; done names none
   pub place-of-answer : (number ≡ 0 → place ≡ 0) → placeOf (answerOf number place) ≡ place
   place-of-answer h = cases (eq-or-ne number 0) (λ e. rw (answer-done e, h e)) (λ n. rw (answer-refused n))

@@ -37,19 +37,20 @@ sum-bound (suc n) b (suc w) hb h =
     omega (arith, sum-bound n b (suc w - b) hb (omega arith), mul-le-mul low (add-le-add low (le-refl 1)))
 
 -- ---- S
+-- THE CLAIM: S(0) = 0
 pub S-none : (b v : ℕ) → v ≤ 0 → S b v ≡ 0
 unfolding S
 S-none b v h = sum-of-none v b v h
 
 module _ (b : ℕ) (rate : 1 ≤ b) where
-  -- one cycle of braking: this cycle's way, and the way from the lowered speed
+  -- THE CLAIM: S(v) = v + S(v - b): this cycle's way, and the way from the lowered speed
   pub S-step : (v : ℕ) → S b v ≡ v + S b (v - b)
   unfolding S fallingSum
   S-step v =
       sum-enough v (suc v) b v rate (omega arith) (omega arith)
       ∙ ap (λ (x : ℕ). v + x) (sum-enough v (v - b) b (v - b) rate (omega arith) (omega arith))
 
-  -- the last cycle: full braking takes the whole speed
+  -- THE CLAIM: where v is at most `b`, no term after it is positive: S(v) = v, the last cycle
   pub S-last : (v : ℕ) → v ≤ b → S b v ≡ v
   S-last v h = omega (arith, S-step v, S-none b (v - b) (omega arith))
 
@@ -66,6 +67,7 @@ module _ (b : ℕ) (rate : 1 ≤ b) where
   S-bound top v h = le-trans (sum-bound v b v rate (le-refl v)) (mul-le-mul h (add-le-add h (le-refl 1)))
 
   -- ---- B
+  -- THE CLAIM: B(v) = S(v - b): the way still run after this cycle is that from the lowered speed
   pub B-step : (v : ℕ) → B b v ≡ S b (v - b)
   unfolding B
   B-step v = omega (arith, S-step v)

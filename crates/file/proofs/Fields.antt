@@ -14,6 +14,7 @@ two-back n = omega arith
 four-back : (n : ℕ) → fourAt (four n) 0 ≡ n
 four-back n = omega arith
 
+-- THE CLAIM: each field of the header stands at its place, and its zeros start after the last
 pub header-back :
     (segments routes gmax b d : ℕ) (rest : List ℕ) → let s = headerBytes segments routes gmax b d ++ rest in
     (byteAt s (inHeader .version) ≡ version) × (byteAt s (inHeader .segments) ≡ segments) × (byteAt s (inHeader .routes) ≡ routes)
@@ -22,6 +23,7 @@ pub header-back :
     × (length (headerBytes segments routes gmax b d) ≡ inHeader .zeros)
 header-back segments routes gmax b d rest = (refl, refl, refl, refl, two-back gmax, two-back b, four-back d, refl)
 
+-- THE CLAIM: each field of a segment record stands at its place, and the record ends with its last zero
 pub segment-back :
     (length′ limit next1 next2 previous1 previous2 flags : ℕ) (rest : List ℕ)
     → let r = segmentBytes length′ limit next1 next2 previous1 previous2 flags in
@@ -42,6 +44,7 @@ module _ (number : ℕ) (held : List ℕ) (first second : ℕ) (fits : length he
       let long : length (held ++ pad) ≡ inTail .kind = simp (length-append, length-replicate) (omega arith) in
       rw long at (getD-append-add (held ++ pad) tail i 0)
 
+  -- THE CLAIM: kind, block number and check stand at their places in the tail of each block
   pub tail-back :
       let s = blockBytes number held first second in
       (byteAt s (inTail .kind) ≡ kindOf number) × (byteAt s (inTail .number) ≡ number)

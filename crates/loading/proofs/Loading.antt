@@ -44,7 +44,7 @@ module _ (file : List ℕ) where
     λ m. number-of-answer (verdict file .number) (verdict file .place) ∙ eqb-true (verdict file .number) 0 (number-zero file ∙ accepted-iff file .1 m),
   )
 
-  -- the answer's number and place are the verdict's, of which `refusal-placed` says what the place is
+  -- THE CLAIM: the answer's number and place are those of the first rule broken, 0 and 0 for none; `refusal-placed` says what the place is
   pub answer-verdict : (numberOf (loaded file .answer) ≡ verdict file .number) × (placeOf (loaded file .answer) ≡ verdict file .place)
   unfolding loaded
   answer-verdict = (
@@ -52,11 +52,12 @@ module _ (file : List ℕ) where
     place-of-answer (verdict file .number) (verdict file .place) (refusal-placed file .done),
   )
 
-  -- a refusal gives the blank record, done a fresh area with the tables of the file
+  -- THE CLAIM: load's refusal gives the blank record
   pub refused-blank : accepted file ≡ false → loaded file .area ≡ blank
   unfolding loaded
   refused-blank e = rw (not-false (verdict file .holds) e)
 
+  -- THE CLAIM: a loaded area has the file's tables, no allocations and no trains; the step due is speed
   pub done-fresh : accepted file ≡ true → loaded file .area ≡ fresh (decoded file)
   unfolding loaded
   done-fresh e = rw (not-true (verdict file .holds) e)

@@ -89,7 +89,7 @@ first-A : at (afterEnter (fresh (decoded A)) 1 1 250 .allocations) 1 ≡ 1
 unfolding afterEnter fresh each nth
 first-A = rw tables (unfold tablesOf segmentAt in refl)
 
--- THE CLAIM
+-- THE CLAIM: the seven values of S, the value of B and the four edges hold, as rows of one table; so does the run with a train on it
 pub rows-hold : allHold table ≡ true
 unfolding allHold table holds
 rows-hold =

@@ -103,13 +103,14 @@ file-meets file done = done-iff file .0 done .tables
 pub file-fresh : (file : List ℕ) → numberOf (loaded file .answer) ≡ 0 → loaded file .area ≡ fresh (decoded file)
 file-fresh file done = done-fresh file (accepted-iff file .1 (done-iff file .0 done))
 
--- so the list starts from a fresh record of the file's tables
+-- THE CLAIM: a list starts from the record of a load answered done: the file's tables, no allocations, no trains, speed due
 pub from-fresh :
     (file : List ℕ) → numberOf (loaded file .answer) ≡ 0 → (calls : List Call) → after file calls ≡ afterFrom (begin (fresh (decoded file))) calls
 unfolding after
 from-fresh file done calls = ap (λ (a : Area). afterFrom (begin a) calls) (file-fresh file done)
 
--- THE CLAIM
+-- THE CLAIM: demand 3, for every file that load answers with done and every list of calls: no two trains are on one segment, and all the
+-- other sentences of `Separated`
 pub demand3 : Demand3
 demand3 file done calls =
     let T = decoded file in

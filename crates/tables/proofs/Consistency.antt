@@ -104,6 +104,8 @@ module _ (T : Tables) (m : Meets T) where
       let f = simp and-iff at (route-tests r low high) in
       every-at (stepIn (T .next) (T .routebytes) r) _ (f .0 .1) p from (omega arith)
 
+  -- THE CLAIM: where tables meet rules 4 to 10, top speed stops within `d`, next links match previous ones, rise and drop the limit by at most `b`,
+  -- and routes follow next links; each field of `Consistent` says one such fact
   pub consistent : Consistent T
   consistent =
       record {
@@ -127,7 +129,7 @@ module _ (T : Tables) (m : Meets T) where
             record { link = step-facts r p low high from to; some = place-facts r (p + 1) low high (omega arith) (omega arith) .from };
       }
 
--- the test of tables decides whether they meet the rules
+-- THE CLAIM: the test of tables decides whether they meet rules 4 to 10
 pub meets-iff : (T : Tables) → (meets T ≡ true) ↔ Meets T
 unfolding meets
 meets-iff T = (

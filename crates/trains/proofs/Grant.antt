@@ -36,6 +36,7 @@ module _ (T : Tables) (trains : List Train) where
   unfolding asked
   of-asks t s a = choose (trainAt trains t .asks) (wanted T (trainAt trains t)) s (a .asks) (a .wants)
 
+  -- THE CLAIM: a segment that is allocated stays with its train
   pub grant-keeps : (s h : ℕ) → 1 ≤ h → granted T trains s h ≡ h
   unfolding granted
   grant-keeps s h some = rw (ne-eqb h 0 (λ e. omega arith))
@@ -44,6 +45,7 @@ module _ (T : Tables) (trains : List Train) where
   unfolding granted
   granted-free s = refl
 
+  -- THE CLAIM: an unallocated segment goes to none but a train asking for it
   pub grant-asked : (s t : ℕ) → 1 ≤ s → 1 ≤ t → granted T trains s 0 ≡ t → AsksFor T trains t s
   unfolding served
   grant-asked s t some high e =
@@ -54,6 +56,7 @@ module _ (T : Tables) (trains : List Train) where
       let a = asks-of t s some (eqb-true (asked T (trainAt trains t)) s holds) in
       record { isTrain = (high, le); asks = a .0; wants = a .1 }
 
+  -- THE CLAIM: where trains ask for an unallocated segment, it goes to one, and to no greater number than that of any of them
   pub grant-least : (s t u : ℕ) → granted T trains s 0 ≡ t → AsksFor T trains u s → (1 ≤ t) × (t ≤ u)
   unfolding served
   grant-least s t u e a =
@@ -62,5 +65,6 @@ module _ (T : Tables) (trains : List Train) where
       let l = least-upto p mostTrains u (a .isTrain .0) (a .isTrain .1) (eq-eqb (asked T (trainAt trains u)) s (of-asks u s a)) in
       (omega arith, omega arith)
 
+-- THE CLAIM: all asking ends
 pub calmed-asks : (x : Train) → calmed x .asks ≡ false
 calmed-asks x = refl

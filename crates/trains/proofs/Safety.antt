@@ -106,7 +106,7 @@ module _ (T : Tables) (K : Consistent T) where
   next-held : (held : ℕ → ℕ) (t : ℕ) (x : Train) → 1 ≤ nextOf T x → held (nextOf T x) ≡ t → holdsNext T held t x ≡ true
   next-held held t x some e = rw (lt-ltb 0 (nextOf T x) some, eq-eqb (held (nextOf T x)) t e)
 
-  -- low is never above the upper end, so that the order in which a clamp looks at its ends plays no part
+  -- THE CLAIM: low is never above the upper end, so that the order in which a clamp looks at its ends plays no part
   pub low-high :
       (held : ℕ → ℕ) (t : ℕ) (x : Train) → OnRoute T (x .route) (x .place) → x .speed ≤ ownLimit T x
       → low (T .braking) x ≤ upperEnd (spotOf T held t x)

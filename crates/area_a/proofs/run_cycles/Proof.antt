@@ -1,10 +1,10 @@
+-- No contract speaks of what is printed, so nothing has to be kept from turn to turn; the loop ends after cycle 6 or at a refusal.
 use Prim.Native.Nat.{_-_}
 use native.Mathlib.Omega.{arith}
 use borrow.Author.Needs.{needs}
 use Rattle.area_a.proofs.run_cycles.Statement.{statement}
 use Rattle.area_a.proofs.run_cycles.Tie as tie
 
--- no contract speaks of what is printed, so nothing has to be kept from turn to turn
 abbrev Inv-loop : tie.InvT-loop
 Inv-loop area₀ cycle₀ area cycle = Unit {0}
 

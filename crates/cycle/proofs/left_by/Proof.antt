@@ -1,3 +1,4 @@
+-- The length that the test has is that of the train's own segment, so the train leaves it exactly when the definition moves it on.
 use mathlib.Core.Path.{sym, _∙_}
 use borrow.Author.Needs.{needs}
 use Rattle.cycle.proofs.left_by.Statement.{statement}

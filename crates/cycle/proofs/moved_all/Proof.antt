@@ -1,3 +1,4 @@
+-- The loop fills the array place by place: each turn moves one train, which has the room that is required of every train.
 use Prim.Native.Nat.{ℕ, _+_, _-_}
 use native.Mathlib.Omega.{arith}
 use borrow.Author.Needs.{needs}

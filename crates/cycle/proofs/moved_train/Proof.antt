@@ -1,3 +1,5 @@
+-- A train that moves on has come to its segment's end, so the length can be subtracted; the room required keeps place and position from
+-- wrapping.
 use Prim.Native.Nat.{ℕ, _+_, _≤_}
 use mathlib.Core.Path.{_≡_, sym, _∙_}
 use mathlib.Core.Bool.{true, and-eq-true-iff}

@@ -1,3 +1,4 @@
+-- A near train without next takes low; of any other the wish is cut to the upper end and then raised to low, as the definition has it.
 use borrow.Author.Needs.{needs}
 use Rattle.trains.specs.Cycle.{newSpeed}
 use Rattle.cycle.proofs.new_speed.Statement.{statement}

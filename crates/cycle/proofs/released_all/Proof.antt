@@ -1,3 +1,4 @@
+-- In the list of what each train leaves, a segment's holder has that segment exactly where the definition frees it.
 use Prim.Native.Nat.{ℕ, zero, suc, _≤_}
 use mathlib.Core.Path.{_≡_, refl, _∙_}
 use mathlib.Core.List.{List}

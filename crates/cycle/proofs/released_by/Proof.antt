@@ -1,3 +1,4 @@
+-- The loop fills the array place by place: each turn frees one segment where its holder leaves it, and else keeps it.
 use Prim.Native.Nat.{ℕ, _-_}
 use native.Mathlib.Omega.{arith}
 use lib.Dec.{eqb}

@@ -1,3 +1,4 @@
+-- Each field is what the reader that fills it gives: the numbers from the places of the header, the arrays from the records.
 use borrow.Author.Needs.{needs}
 use Rattle.decoding.specs.Decoding.{decoded}
 use Rattle.decoding.proofs.decode.Statement.{statement}

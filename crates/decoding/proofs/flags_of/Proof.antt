@@ -1,3 +1,4 @@
+-- The loop computes the array by number: the flags of a record are the byte at place 10 after its start.
 use Prim.Native.Nat.{_-_}
 use native.Mathlib.Omega.{arith}
 use borrow.Author.Needs.{needs}

@@ -1,3 +1,4 @@
+-- The loop computes the array by number: there are two links a record, so entry i, from 0, is link i % 2 of record i / 2 + 1.
 use Prim.Native.Nat.{_+_, _-_, _/_}
 use mathlib.Core.Path.{_≡_}
 use native.Mathlib.Omega.{arith}

@@ -1,3 +1,4 @@
+-- The loop computes the array by number: a route block has 480 bytes of records, so byte i stands in block 3 + i / 480, at i % 480.
 use Prim.Native.Nat.{_+_, _-_}
 use mathlib.Core.Path.{_≡_}
 use native.Mathlib.Omega.{arith}

@@ -1,10 +1,10 @@
+-- No contract speaks of what is printed, so nothing has to be kept from turn to turn; the loop ends after segment 62.
 use Prim.Native.Nat.{_-_}
 use native.Mathlib.Omega.{arith}
 use borrow.Author.Needs.{needs}
 use Rattle.display.proofs.say_allocations.Statement.{statement}
 use Rattle.display.proofs.say_allocations.Tie as tie
 
--- no contract speaks of what is printed, so nothing has to be kept from turn to turn
 abbrev Inv-loop : tie.InvT-loop
 Inv-loop allocations s₀ s = Unit {0}
 

@@ -1,10 +1,10 @@
+-- No contract speaks of what is printed, so nothing has to be kept from turn to turn; the loop ends with the last call.
 use Prim.Native.Nat.{_-_}
 use native.Mathlib.Omega.{arith}
 use borrow.Author.Needs.{needs}
 use Rattle.display.proofs.say_answers.Statement.{statement}
 use Rattle.display.proofs.say_answers.Tie as tie
 
--- no contract speaks of what is printed, so nothing has to be kept from turn to turn
 abbrev Inv-loop : tie.InvT-loop
 Inv-loop answers calls k₀ k = Unit {0}
 

@@ -1,10 +1,10 @@
+-- No contract speaks of what is printed, so nothing has to be kept from turn to turn; the loop ends after train 24.
 use Prim.Native.Nat.{_-_}
 use native.Mathlib.Omega.{arith}
 use borrow.Author.Needs.{needs}
 use Rattle.display.proofs.say_trains.Statement.{statement}
 use Rattle.display.proofs.say_trains.Tie as tie
 
--- no contract speaks of what is printed, so nothing has to be kept from turn to turn
 abbrev Inv-loop : tie.InvT-loop
 Inv-loop trains t₀ t = Unit {0}
 

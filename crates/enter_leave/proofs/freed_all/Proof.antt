@@ -1,3 +1,4 @@
+-- The loop fills the array place by place: each turn frees one allocation where it is train t's, and else keeps it.
 use Prim.Native.Nat.{_-_}
 use native.Mathlib.Omega.{arith}
 use borrow.Author.Needs.{needs}

@@ -1,3 +1,4 @@
+-- To change an allocation only where its number is s is to store at s alone, and to store nothing where there is no segment s.
 use mathlib.Core.Path.{_≡_, sym}
 use mathlib.Core.Logic.{inl, inr}
 use native.Mathlib.Omega.{arith}

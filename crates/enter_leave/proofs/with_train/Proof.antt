@@ -1,3 +1,4 @@
+-- To change a train only where its number is t is to store at t alone, and to store nothing where there is no train t.
 use mathlib.Core.Path.{_≡_, sym}
 use mathlib.Core.Logic.{inl, inr}
 use native.Mathlib.Omega.{arith}

@@ -1,3 +1,4 @@
+-- The loop stops at the first byte that is not zero, which makes the test false; where it comes to the end, every byte was zero.
 use Prim.Native.Nat.{max, ℕ, _+_, _-_, _≤_}
 use mathlib.Core.Path.{_≡_, sym, _∙_}
 use mathlib.Core.Bool.{Bool, true}

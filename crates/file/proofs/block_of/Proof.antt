@@ -1,3 +1,4 @@
+-- A file of 2,560 bytes holds five whole blocks, so for k below 5 the 512 bytes from 512 * k on are there: they are block k.
 use Prim.Native.Nat.{ℕ, _+_, _*_, _-_}
 use mathlib.Core.Path.{_≡_, ap}
 use native.Mathlib.Omega.{arith}

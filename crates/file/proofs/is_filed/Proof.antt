@@ -1,3 +1,4 @@
+-- Kind, block number, the tail's zeros and a route block's zeros are each tested as the definition tests them.
 use borrow.Author.Needs.{needs}
 use Rattle.file.specs.Blocks.{filed}
 use Rattle.file.proofs.is_filed.Statement.{statement}

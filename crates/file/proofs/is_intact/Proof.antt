@@ -1,3 +1,4 @@
+-- The sums are kept whole, which fits 32 bits for 510 bytes: reduced once at the end they are what reducing at each byte gives.
 use Prim.Native.Nat.{ℕ, _+_, _-_, _*_, _≤_, _<_, _%_}
 use mathlib.Core.List.{List}
 use mathlib.Core.Path.{_≡_, refl, ap, _∙_}

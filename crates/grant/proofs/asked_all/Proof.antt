@@ -1,3 +1,4 @@
+-- The loop fills the array place by place: each turn finds the segment that one train asks for.
 use Prim.Native.Nat.{ℕ, _-_}
 use mathlib.Core.Path.{refl}
 use native.Mathlib.Omega.{arith}

@@ -1,3 +1,4 @@
+-- The loop fills the array place by place: each turn ends the asking of one train.
 use Prim.Native.Nat.{ℕ, _-_}
 use native.Mathlib.Omega.{arith}
 use borrow.Author.Needs.{needs}

@@ -1,3 +1,4 @@
+-- After each turn every segment has the least of the trains so far that ask for it: the next train gets only what none before it asked for.
 use Prim.Native.Nat.{_-_, _≤_}
 use mathlib.Core.Path.{_≡_, ap, _∙_}
 use native.Mathlib.Omega.{arith}

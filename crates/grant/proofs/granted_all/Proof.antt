@@ -1,3 +1,5 @@
+-- The least train that has a segment in the list of what each asks for is the one that the definition serves with it; a segment that is
+-- held stays with its holder.
 use Prim.Native.Nat.{ℕ}
 use mathlib.Core.Path.{_≡_, refl, ap, _∙_}
 use mathlib.Core.List.{List}

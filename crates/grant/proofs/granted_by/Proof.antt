@@ -1,3 +1,4 @@
+-- The loop fills the array place by place: each turn settles one segment, which its holder keeps or, if it is free, its first asker gets.
 use Prim.Native.Nat.{ℕ, _-_}
 use mathlib.Core.Path.{_∙_, ap, sym}
 use native.Mathlib.Omega.{arith}

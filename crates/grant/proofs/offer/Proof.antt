@@ -1,3 +1,4 @@
+-- A segment that the list has no place for changes nothing; of any other the one entry stays or, where it is 0, becomes t.
 use mathlib.Core.Logic.{inl, inr}
 use mathlib.Core.Path.{sym}
 use native.Mathlib.Omega.{arith}

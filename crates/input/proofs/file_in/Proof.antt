@@ -1,3 +1,4 @@
+-- Of an input shorter than a file the first 2,560 bytes are all that there is; of any other the part has just these.
 use Prim.Native.Nat.{_-_}
 use mathlib.Core.Path.{sym, _∙_}
 use native.Mathlib.Omega.{arith}

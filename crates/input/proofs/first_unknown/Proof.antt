@@ -1,3 +1,4 @@
+-- The scan stops at the first record that is of no known kind; those before it are of one, so it is the least.
 use Prim.Native.Nat.{_+_, _-_, _/_}
 use mathlib.Core.Path.{_≡_}
 use mathlib.Core.Bool.{_&&_}

@@ -1,3 +1,4 @@
+-- The loop computes the array by number: each turn reads one item from its two bytes, which past the script's end are zeros.
 use Prim.Native.Nat.{_+_, _-_}
 use mathlib.Core.Path.{_≡_}
 use native.Mathlib.Omega.{arith}

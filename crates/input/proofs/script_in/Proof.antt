@@ -1,3 +1,4 @@
+-- Of an input shorter than a file nothing is left after 2,560 bytes, and the part is empty; of any other the part runs from there to the end.
 use Prim.Native.Nat.{_≤_, _-_}
 use native.Mathlib.Nat.{sub-self}
 use native.Mathlib.Omega.{arith}

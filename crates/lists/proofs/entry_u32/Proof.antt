@@ -1,3 +1,4 @@
+-- Entry n stands at index n - 1; 0 and a number past the end have no entry, and give 0.
 use borrow.Author.Needs.{needs}
 use native.Mathlib.Omega.{arith}
 use mathlib.Core.Path.{sym}

@@ -1,3 +1,4 @@
+-- Version, zero byte and zeros are read in block 0, at the places where the definition has them.
 use borrow.Author.Needs.{needs}
 use Rattle.reading.specs.Verdict.{headerFiled}
 use Rattle.reading.proofs.is_header_filed.Statement.{statement}

@@ -1,3 +1,4 @@
+-- Block and start are those of record i + 1, so the bytes that are looked at are the five that end it.
 use borrow.Author.Needs.{needs}
 use Rattle.reading.specs.Verdict.{reserved}
 use Rattle.reading.proofs.is_reserved.Statement.{statement}

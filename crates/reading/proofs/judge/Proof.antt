@@ -1,3 +1,5 @@
+-- Rules 4 to 10 in the list's order: one that holds drops out, the first that is broken decides; rule 4, once it holds, gives rule 5
+-- its braking rate of at least 1.
 use Prim.Native.Nat.{ℕ}
 use mathlib.Core.Path.{_≡_, refl, _∙_}
 use mathlib.Core.Bool.{_&&_}

@@ -1,3 +1,4 @@
+-- Rules 1 to 3 in the list's order: one that holds drops out, the first that is broken decides; what is left then is what `judge` decides.
 use Prim.Native.Nat.{ℕ}
 use mathlib.Core.Path.{refl, _∙_}
 use mathlib.Core.List.{List}

@@ -1,3 +1,4 @@
+-- The record that is found is one of the script's whole ones, so the number of its first item is within the script and cannot wrap.
 use Prim.Native.Nat.{_/_}
 use native.Mathlib.Omega.{arith}
 use lib.ListN.{length}

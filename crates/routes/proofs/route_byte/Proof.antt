@@ -1,3 +1,4 @@
+-- Counted from 1 the byte is entry 32 * r - 31 + p, so its index is one less, which lies within the 960 bytes.
 use Prim.Native.Nat.{_+_, _-_, _*_}
 use mathlib.Core.Path.{_≡_, sym}
 use native.Mathlib.Omega.{arith}

@@ -1,3 +1,4 @@
+-- The code asks what the rule asks of each of the two next links: that it is none or the limit there is lower by at most `b`.
 use Rattle.tables.specs.Rules.{dropIn}
 use borrow.Author.Needs.{needs}
 use Rattle.rules.proofs.drop_ok.Statement.{statement}

@@ -1,3 +1,4 @@
+-- The code asks what the rule asks of each of the four links: that a next link has its previous link, and a previous link its next.
 use Rattle.tables.specs.Rules.{jointIn}
 use borrow.Author.Needs.{needs}
 use Rattle.rules.proofs.joint_ok.Statement.{statement}

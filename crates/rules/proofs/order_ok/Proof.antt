@@ -1,3 +1,4 @@
+-- The code asks what the rule asks of each of the two next links: that it is none or greater than the segment.
 use Rattle.tables.specs.Rules.{orderIn}
 use borrow.Author.Needs.{needs}
 use Rattle.rules.proofs.order_ok.Statement.{statement}

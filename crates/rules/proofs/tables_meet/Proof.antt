@@ -1,3 +1,4 @@
+-- A scan gives 0 exactly when all that it looks at meet its rule; the header comes first, since the margin's test needs its braking rate.
 use native.Mathlib.Omega.{arith}
 use borrow.Author.Needs.{needs}
 use Rattle.lists.proofs.Cases.{facts, test-fails, test-holds}

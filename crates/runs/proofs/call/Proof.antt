@@ -1,3 +1,5 @@
+-- The record's kind picks the same call in the code and in the definition, with the same items as arguments, and the call's contract does
+-- the rest.
 use mathlib.Core.Path.{sym, _∙_}
 use borrow.Author.Needs.{needs}
 use borrow.Author.Tests.{ne-eqb}

@@ -1,3 +1,4 @@
+-- A part ends with its count or with the items, whichever comes first, and past the last item it is empty: so does a take after a drop.
 use Prim.Native.Nat.{ℕ, _-_, _≤_}
 use mathlib.Core.Path.{_≡_, sym, ap, _∙_}
 use mathlib.Core.List.{List}

@@ -1,3 +1,5 @@
+-- After each call the calls that are left lead from the record in hand to what the whole run comes to, and the numbers of the answers so far
+-- stand in the buffer.
 use Prim.Native.Nat.{ℕ, _-_}
 use mathlib.Core.Path.{ap, _∙_}
 use mathlib.Core.List.{List}

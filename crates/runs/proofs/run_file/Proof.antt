@@ -1,3 +1,4 @@
+-- Load's number decides: after a refusal nothing is run; after done the run starts from the loaded record, and demand 3 holds of every run.
 use borrow.Author.Needs.{needs}
 use denote.Ref.{now}
 use Rattle.runs.proofs.Laws.{file-refused, file-run}

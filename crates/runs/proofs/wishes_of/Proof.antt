@@ -1,3 +1,4 @@
+-- A number over 25 is read as 25, so the count is the smaller of the two, and the wishes are that many items from item 7 on.
 use Prim.Native.Nat.{ℕ, min}
 use mathlib.Core.Path.{_≡_, ap, _∙_}
 use mathlib.Core.List.{List}

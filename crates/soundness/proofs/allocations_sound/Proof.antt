@@ -1,3 +1,5 @@
+-- Each allocation is tested with the train in its holder's slot, which plays no part where the holder is no train; the first that fails
+-- makes the test of all false.
 use Prim.Native.Nat.{ℕ, _+_, _-_, _≤_}
 use mathlib.Core.Path.{_≡_, sym, _∙_}
 use mathlib.Core.Bool.{Bool, true}

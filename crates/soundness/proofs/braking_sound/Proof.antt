@@ -1,3 +1,5 @@
+-- A train that holds next has a test of its own; without next, one that is more than `d` before its segment's end stops within it, since
+-- S(speed) ≤ `d`, and of one that is closer the way is worked out.
 use Prim.Native.Nat.{_+_, _≤_}
 use native.Mathlib.Omega.{arith}
 use borrow.Author.Needs.{needs}

@@ -1,3 +1,4 @@
+-- A number of 1 to 24 gives the slot one below it; any other gives slot 0, of which nothing is asked but that it is a slot.
 use native.Mathlib.Omega.{arith}
 use mathlib.Core.Bool.{_&&_}
 use lib.Dec.{leb}

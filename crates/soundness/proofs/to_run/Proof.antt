@@ -1,3 +1,4 @@
+-- S(speed) is never below the speed, so with speed due the difference can be taken, and it is B(speed); with another step due S(speed) stays.
 use native.Mathlib.Omega.{arith}
 use borrow.Author.Needs.{needs}
 use borrow.Author.Tests.{eq-eqb, ne-eqb}

@@ -1,3 +1,4 @@
+-- The loop computes the array by number: the allocation of segment s is byte s of the state.
 use Prim.Native.Nat.{_-_}
 use native.Mathlib.Omega.{arith}
 use borrow.Author.Needs.{needs}

@@ -1,3 +1,4 @@
+-- Each field is what the reader that fills it gives.
 use borrow.Author.Needs.{needs}
 use Rattle.state.specs.State.{recordOf}
 use Rattle.state.proofs.record_of.Statement.{statement}

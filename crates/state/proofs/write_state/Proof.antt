@@ -1,3 +1,4 @@
+-- The 64 bytes before the trains and after them the trains' rows are put one after the other, which is to put the whole state.
 use mathlib.Core.Path.{_≡_, _∙_}
 use lib.ListN.{length}
 use borrow.Author.Needs.{needs}

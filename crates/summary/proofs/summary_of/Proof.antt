@@ -1,3 +1,5 @@
+-- The ones of the word are the allocated segments, and the zeros that end its complement are the segments before the first free one, which
+-- is the least if it is among the n.
 use mathlib.Core.Path.{_≡_}
 use native.Mathlib.Omega.{arith}
 use borrow.Author.Needs.{needs}

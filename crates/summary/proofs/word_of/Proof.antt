@@ -1,3 +1,4 @@
+-- The segments go in from the highest down, a doubling and a bit for each, so the word is that of the segments taken so far and fits 62 bits.
 use native.Mathlib.Omega.{arith}
 use borrow.Author.Needs.{needs}
 use mathlib.Core.Path.{_≡_}

@@ -1,3 +1,4 @@
+-- The entry that is read is the definition's: of segment 0, where 2 * s - 1 stops at 0, it is entry 0.
 use Prim.Native.Nat.{_-_, _*_}
 use mathlib.Core.Path.{_≡_}
 use native.Mathlib.Omega.{arith}

@@ -1,3 +1,5 @@
+-- A segment of 1 to 62 has its two links at the indices 2 * s - 2 and 2 * s - 1, which are read straight; of any other number both are
+-- looked up.
 use Prim.Native.Nat.{ℕ, _+_, _-_, _*_, _≤_}
 use mathlib.Core.Path.{_≡_}
 use mathlib.Core.List.{List}

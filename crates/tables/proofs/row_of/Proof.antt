@@ -1,3 +1,4 @@
+-- Each field is what the look-up that fills it gives.
 use borrow.Author.Needs.{needs}
 use Rattle.tables.proofs.row_of.Statement.{statement}
 use Rattle.tables.proofs.row_of.Tie as tie

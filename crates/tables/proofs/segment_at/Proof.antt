@@ -1,3 +1,4 @@
+-- The entry that is read is the definition's: of route 0, where 32 * r - 31 stops at 0, it is entry p.
 use Prim.Native.Nat.{_+_, _-_, _*_}
 use mathlib.Core.Path.{_≡_}
 use native.Mathlib.Omega.{arith}

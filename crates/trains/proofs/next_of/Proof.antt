@@ -1,3 +1,4 @@
+-- A place below the route's count has a next one, whose segment is the next; from the count on there is none.
 use borrow.Author.Tests.{lt-ltb, le-ltb}
 use Rattle.trains.specs.Train.{nextIn}
 use borrow.Author.Needs.{needs}

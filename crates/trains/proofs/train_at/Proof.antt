@@ -1,3 +1,4 @@
+-- Train n stands in slot n - 1; 0 and a number over 24 have no slot, and give a train off.
 use mathlib.Core.Path.{_≡_, sym, _∙_}
 use native.Mathlib.Omega.{arith}
 use lib.ListN.{length}

@@ -1,3 +1,4 @@
+-- The report is of the record that the file's run hands back, so its answer and its numbers are those of the definition.
 use mathlib.Core.Path.{ap, _∙_}
 use borrow.Author.Needs.{needs}
 use Rattle.answers.specs.Answers.{numberOf}

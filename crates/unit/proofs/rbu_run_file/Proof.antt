@@ -1,3 +1,4 @@
+-- Load's number decides: at 0 the state of the run is written, at any other the buffer stays as it was; the rest is what `run_file` gives.
 use borrow.Author.Needs.{needs}
 use denote.Ref.{now}
 use Rattle.unit.proofs.Laws.{told-done, told-refused}

@@ -1,3 +1,4 @@
+-- The record is the one that the bytes spell, the run is the script's from that record, and what is written is the state that it comes to.
 use borrow.Author.Needs.{needs}
 use denote.Ref.{now}
 use Rattle.unit.proofs.Laws.{record-told}

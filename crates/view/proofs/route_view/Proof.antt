@@ -1,3 +1,4 @@
+-- The part that the definition names lies within the file, so it can be cut out there, and its bytes and its place are the definition's.
 use Prim.Native.Nat.{_+_, _-_}
 use mathlib.Core.Path.{_≡_, refl}
 use native.Mathlib.Omega.{arith}

@@ -1,3 +1,4 @@
+-- A view that is refused is 0 and 0; of a shown one the number is 1 to R, so its record lies in the file, the count first and then the segments.
 use Prim.Native.Nat.{_+_, _-_}
 use mathlib.Core.Path.{_≡_, sym, _∙_}
 use mathlib.Core.Bool.{true}
