@@ -48,29 +48,29 @@ fn answered(area: Area, number: u8) -> Outcome
     }
 }
 
-// ---- the number of the first test of a call that holds, 0 where none does
-fn step_refusal(area: Area, step: u8) -> u8
-    ensures { λ r. ⌜ r ≡ firstOf (stepTests step area) .number ⌝ }
+// ---- the number of the first test of a call that holds, 0 where none does; `ok` says whether the record is sound, which the call has tested
+fn step_refusal(ok: bool, due: u8, step: u8) -> u8
+    ensures { λ r. ⌜ r ≡ firstOf (not ok ⇒ 11 ∷ not (eqb due step) ⇒ 12 ∷ []) .number ⌝ }
 {
-    if !area.sound() {
+    if !ok {
         return 11;
     }
-    if area.due != step {
+    if due != step {
         return 12;
     }
     0
 }
 
-fn speed_refusal(area: Area, wishes: &[u16]) -> u8
-    ensures { λ r. ⌜ r ≡ firstOf (speedTests area (now (wishes .entry))) .number ⌝ }
+fn speed_refusal(ok: bool, due: u8, wishes: usize) -> u8
+    ensures { λ r. ⌜ r ≡ firstOf (not ok ⇒ 11 ∷ not (eqb due 0) ⇒ 12 ∷ not (eqb wishes 24) ⇒ 21 ∷ []) .number ⌝ }
 {
-    if !area.sound() {
+    if !ok {
         return 11;
     }
-    if area.due != 0 {
+    if due != 0 {
         return 12;
     }
-    if wishes.len() != 24 {
+    if wishes != 24 {
         return 21;
     }
     0
@@ -114,10 +114,11 @@ fn route_refusal(area: Area, route: u16, speed: u16) -> u8
     )
 }
 
-fn enter_refusal(area: Area, train: u16, route: u16, speed: u16) -> u8
+fn enter_refusal(ok: bool, area: Area, train: u16, route: u16, speed: u16) -> u8
+    requires { ⌜ ok ≡ sound area ⌝ }
     ensures { λ r. ⌜ r ≡ firstOf (enterTests area train route speed) .number ⌝ }
 {
-    if !area.sound() {
+    if !ok {
         return 11;
     }
     if (train == 0) | (24 < train) {
@@ -140,10 +141,11 @@ fn at_exit<'a>(routebytes: &'a [u8; 960], flags: &'a [u8; 62], x: Train) -> bool
     (x.place == last) & (entry_u8(flags, own as usize) / 2 == 1)
 }
 
-fn leave_refusal(area: Area, train: u16) -> u8
+fn leave_refusal(ok: bool, area: Area, train: u16) -> u8
+    requires { ⌜ ok ≡ sound area ⌝ }
     ensures { λ r. ⌜ r ≡ firstOf (leaveTests area train) .number ⌝ }
 {
-    if !area.sound() {
+    if !ok {
         return 11;
     }
     if (train == 0) | (24 < train) {
@@ -181,60 +183,49 @@ impl Area {
         soundness::allocations_sound(tables, allocations, trains)
     }
 
-    pub fn enter(self, train: u16, route: u16, speed: u16) -> Outcome
+    pub fn enter(mut self, train: u16, route: u16, speed: u16) -> Outcome
         ensures { λ r. ⌜ r ≡ enterCall self train route speed ⌝ }
     {
-        let number = enter_refusal(self, train, route, speed);
+        let ok = self.sound();
+        let number = enter_refusal(ok, self, train, route, speed);
         if number != 0 {
             return answered(self, number);
         }
         let t = train as u8;
         let r = route as u8;
-        let tables = self.tables;
         let held = self.allocations;
         let before = self.trains;
-        let first = tables::segment_at(&tables.routebytes, r, 1);
+        let first = tables::segment_at(&self.tables.routebytes, r, 1);
         let allocations = enter_leave::taken_all(held, first, t);
         let trains = enter_leave::with_train(before, t, trains::entered_train(r, speed));
-        answered(
-            Area {
-                tables,
-                allocations,
-                trains,
-                due: self.due,
-            },
-            0,
-        )
+        self.allocations = allocations;
+        self.trains = trains;
+        answered(self, 0)
     }
 
-    pub fn leave(self, train: u16) -> Outcome
+    pub fn leave(mut self, train: u16) -> Outcome
         ensures { λ r. ⌜ r ≡ leaveCall self train ⌝ }
     {
-        let number = leave_refusal(self, train);
+        let ok = self.sound();
+        let number = leave_refusal(ok, self, train);
         if number != 0 {
             return answered(self, number);
         }
         let t = train as u8;
-        let tables = self.tables;
         let held = self.allocations;
         let before = self.trains;
         let allocations = enter_leave::freed_all(held, t);
         let trains = enter_leave::with_train(before, t, trains::train_off());
-        answered(
-            Area {
-                tables,
-                allocations,
-                trains,
-                due: self.due,
-            },
-            0,
-        )
+        self.allocations = allocations;
+        self.trains = trains;
+        answered(self, 0)
     }
 
-    pub fn speed(self, wishes: &[u16]) -> Outcome
+    pub fn speed(mut self, wishes: &[u16]) -> Outcome
         ensures { λ r. ⌜ r ≡ speedCall self (now (wishes .entry)) ⌝ }
     {
-        let number = speed_refusal(self, wishes);
+        let ok = self.sound();
+        let number = speed_refusal(ok, self.due, wishes.len());
         if number != 0 {
             return answered(self, number);
         }
@@ -242,21 +233,16 @@ impl Area {
         let allocations = self.allocations;
         let before = self.trains;
         let trains = cycle::sped_all(tables, allocations, wishes, before);
-        answered(
-            Area {
-                tables,
-                allocations,
-                trains,
-                due: 1,
-            },
-            0,
-        )
+        self.trains = trains;
+        self.due = 1;
+        answered(self, 0)
     }
 
-    pub fn request(self) -> Outcome
+    pub fn request(mut self) -> Outcome
         ensures { λ r. ⌜ r ≡ requestCall self ⌝ }
     {
-        let number = step_refusal(self, 1);
+        let ok = self.sound();
+        let number = step_refusal(ok, self.due, 1);
         if number != 0 {
             return answered(self, number);
         }
@@ -264,21 +250,16 @@ impl Area {
         let allocations = self.allocations;
         let before = self.trains;
         let trains = cycle::requested_all(tables, allocations, before);
-        answered(
-            Area {
-                tables,
-                allocations,
-                trains,
-                due: 2,
-            },
-            0,
-        )
+        self.trains = trains;
+        self.due = 2;
+        answered(self, 0)
     }
 
-    pub fn grant(self) -> Outcome
+    pub fn grant(mut self) -> Outcome
         ensures { λ r. ⌜ r ≡ grantCall self ⌝ }
     {
-        let number = step_refusal(self, 2);
+        let ok = self.sound();
+        let number = step_refusal(ok, self.due, 2);
         if number != 0 {
             return answered(self, number);
         }
@@ -287,21 +268,17 @@ impl Area {
         let before = self.trains;
         let allocations = grant::granted_all(tables, before, held);
         let trains = grant::calmed_all(before);
-        answered(
-            Area {
-                tables,
-                allocations,
-                trains,
-                due: 3,
-            },
-            0,
-        )
+        self.allocations = allocations;
+        self.trains = trains;
+        self.due = 3;
+        answered(self, 0)
     }
 
-    pub fn position(self) -> Outcome
+    pub fn position(mut self) -> Outcome
         ensures { λ r. ⌜ r ≡ positionCall self ⌝ }
     {
-        let number = step_refusal(self, 3);
+        let ok = self.sound();
+        let number = step_refusal(ok, self.due, 3);
         if number != 0 {
             return answered(self, number);
         }
@@ -310,15 +287,10 @@ impl Area {
         let before = self.trains;
         let allocations = cycle::released_all(tables, before, held);
         let trains = cycle::moved_all(tables, before);
-        answered(
-            Area {
-                tables,
-                allocations,
-                trains,
-                due: 0,
-            },
-            0,
-        )
+        self.allocations = allocations;
+        self.trains = trains;
+        self.due = 0;
+        answered(self, 0)
     }
 
     pub fn report(self) -> Report

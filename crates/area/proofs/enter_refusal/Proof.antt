@@ -12,27 +12,24 @@ use Rattle.area.specs.Calls.{noTrain}
 use Rattle.area.proofs.enter_refusal.Statement.{statement}
 use Rattle.area.proofs.enter_refusal.Tie as tie
 
-is-sound : (c : tie.Else1) → sound (c .before .before .args .area) ≡ true
-is-sound c = test-holds (c .before .sound .ensures) (c .if1 .left)
+is-sound : (c : tie.Else1) → sound (c .before .args .area) ≡ true
+is-sound c = test-holds (c .before .pre) (c .if1 .left)
 
-numbered : (c : tie.Else2) → noTrain (c .before .before .before .args .train) ≡ false
-numbered c = sym (outside mostTrains (c .before .before .before .args .train)) ∙ c .if2 .left
+numbered : (c : tie.Else2) → noTrain (c .before .before .args .train) ≡ false
+numbered c = sym (outside mostTrains (c .before .before .args .train)) ∙ c .if2 .left
 
 -- where the train is read
 abbrev at-train : tie.After-train-at → tie.Else2
 at-train c = c .before .before
 
-sound-requires : tie.Need-sound-requires
-sound-requires c κs = search needs
-
 returns : tie.Need-returns
-returns c = rw (test-fails (c .before .sound .ensures) (c .if1 .taken))
+returns c = rw (test-fails (c .before .pre) (c .if1 .taken))
 
 returns-2 : tie.Need-returns-2
-returns-2 c = rw (is-sound (c .before), sym (outside mostTrains (c .before .before .before .args .train)) ∙ c .if2 .taken)
+returns-2 c = rw (is-sound (c .before), sym (outside mostTrains (c .before .before .args .train)) ∙ c .if2 .taken)
 
 cast-train-at : tie.Need-cast-train-at
-cast-train-at c = let h = inside mostTrains (c .before .before .before .before .args .train) (c .before .if2 .left) in omega arith
+cast-train-at c = let h = inside mostTrains (c .before .before .before .args .train) (c .before .if2 .left) in omega arith
 
 train-at-requires : tie.Need-train-at-requires
 train-at-requires c κs = search needs
@@ -55,4 +52,4 @@ returns-4 c =
 pub enter-refusal-spec : {M : Type 1} → statement M
 enter-refusal-spec =
     tie.close
-    (tie.spec sound-requires returns returns-2 cast-train-at train-at-requires returns-3 route-refusal-requires returns-4)
+    (tie.spec returns returns-2 cast-train-at train-at-requires returns-3 route-refusal-requires returns-4)

@@ -16,11 +16,11 @@ use Rattle.area.specs.Calls.{noTrain}
 use Rattle.area.proofs.leave_refusal.Statement.{statement}
 use Rattle.area.proofs.leave_refusal.Tie as tie
 
-is-sound : (c : tie.Else1) → sound (c .before .before .args .t1) ≡ true
-is-sound c = test-holds (c .before .sound .ensures) (c .if1 .left)
+is-sound : (c : tie.Else1) → sound (c .before .args .t2) ≡ true
+is-sound c = test-holds (c .before .pre) (c .if1 .left)
 
 abbrev start : tie.Else2 → tie.Start
-start c = c .before .before .before
+start c = c .before .before
 
 numbered : (c : tie.Else2) → noTrain (start c .args .train) ≡ false
 numbered c = sym (outside mostTrains (start c .args .train)) ∙ c .if2 .left
@@ -30,7 +30,7 @@ abbrev known : tie.After-train-at → tie.Else2
 known c = c .before .before
 
 abbrev train : tie.Else2 → Train
-train c = trainAt (start c .args .t1 .trains) (start c .args .train)
+train c = trainAt (start c .args .t2 .trains) (start c .args .train)
 
 is-on : (c : tie.Else3) → isOn (train (known (c .before .before))) ≡ true
 is-on c = let on : 0 < c .before .before .train-at .result .route = omega (arith, c .if3 .left) in rw (c .before .before .train-at .ensures) at (lt-ltb _ _ on)
@@ -39,18 +39,15 @@ abbrev tried : tie.After-at-exit → tie.Else3
 tried c = c .before .before .before .before
 
 exit-found :
-    (c : tie.After-at-exit) → let e = known (tried c .before .before) in let T = start e .args .t1 .tables in
+    (c : tie.After-at-exit) → let e = known (tried c .before .before) in let T = start e .args .t2 .tables in
     c .at-exit .result ≡ (isLast T (train e) && isExit T (ownOf T (train e)))
 exit-found c = rw (tried c .before .before .train-at .ensures) at (c .at-exit .ensures)
 
-sound-requires : tie.Need-sound-requires
-sound-requires c κs = search needs
-
 returns : tie.Need-returns
-returns c = rw (test-fails (c .before .sound .ensures) (c .if1 .taken))
+returns c = rw (test-fails (c .before .pre) (c .if1 .taken))
 
 returns-2 : tie.Need-returns-2
-returns-2 c = rw (is-sound (c .before), sym (outside mostTrains (c .before .before .before .args .train)) ∙ c .if2 .taken)
+returns-2 c = rw (is-sound (c .before), sym (outside mostTrains (c .before .before .args .train)) ∙ c .if2 .taken)
 
 cast-train-at : tie.Need-cast-train-at
 cast-train-at c = let h = inside mostTrains (start (c .before) .args .train) (c .before .if2 .left) in omega arith
@@ -81,4 +78,4 @@ returns-5 c =
 pub leave-refusal-spec : {M : Type 1} → statement M
 leave-refusal-spec =
     tie.close
-    (tie.spec sound-requires returns returns-2 cast-train-at train-at-requires returns-3 at-exit-requires returns-4 returns-5)
+    (tie.spec returns returns-2 cast-train-at train-at-requires returns-3 at-exit-requires returns-4 returns-5)

@@ -1,26 +1,15 @@
-use mathlib.Core.Path.{_≡_}
-use mathlib.Core.Bool.{true}
-use borrow.Author.Tests.{eq-eqb, ne-eqb}
-use borrow.Author.Needs.{needs}
-use Rattle.lists.proofs.Cases.{test-fails, test-holds}
-use Rattle.area.specs.Sound.{sound}
+use borrow.Author.Tests.{eq-eqb, ne-eqb, not-true, not-false}
 use Rattle.area.proofs.step_refusal.Statement.{statement}
 use Rattle.area.proofs.step_refusal.Tie as tie
 
-is-sound : (c : tie.Else1) → sound (c .before .before .args .area) ≡ true
-is-sound c = test-holds (c .before .sound .ensures) (c .if1 .left)
-
-sound-requires : tie.Need-sound-requires
-sound-requires c κs = search needs
-
 returns : tie.Need-returns
-returns c = rw (test-fails (c .before .sound .ensures) (c .if1 .taken))
+returns c = rw (not-true (c .before .args .ok) (c .if1 .taken))
 
 returns-2 : tie.Need-returns-2
-returns-2 c = rw (is-sound (c .before .before), ne-eqb _ _ (c .if2 .taken))
+returns-2 c = rw (not-false (c .before .before .args .ok) (c .before .if1 .left), ne-eqb _ _ (c .if2 .taken))
 
 returns-3 : tie.Need-returns-3
-returns-3 c = rw (is-sound (c .before .before), eq-eqb _ _ (c .if2 .left))
+returns-3 c = rw (not-false (c .before .before .args .ok) (c .before .if1 .left), eq-eqb _ _ (c .if2 .left))
 
 pub step-refusal-spec : {M : Type 1} → statement M
-step-refusal-spec = tie.close (tie.spec sound-requires returns returns-2 returns-3)
+step-refusal-spec = tie.close (tie.spec returns returns-2 returns-3)

@@ -1,6 +1,7 @@
 -- The number of the first test that holds decides the outcome; where none does, the contracts of the step's parts make its record.
-use mathlib.Core.Path.{refl, _∙_}
+use mathlib.Core.Path.{_≡_, refl, _∙_}
 use borrow.Author.Needs.{needs}
+use Rattle.lists.specs.Tests.{firstOf}
 use Rattle.trains.specs.Due.{grantDue}
 use Rattle.area.specs.Calls.{stepTests, afterGrant, grantCall}
 use Rattle.area.proofs.Laws.{refused-by, finished-by}
@@ -10,6 +11,12 @@ use Rattle.area.proofs.Area.grant.Tie as tie
 -- every test is passed before the record is read
 abbrev passed : tie.After-before2 → tie.Else1
 passed c = c .before .before .before
+
+refusal : (c : tie.After-step-refusal) → c .step-refusal .result ≡ firstOf (stepTests grantDue (c .before .before .args .self)) .number
+refusal c = rw (c .before .sound .ensures) at (c .step-refusal .ensures)
+
+sound-requires : tie.Need-sound-requires
+sound-requires c κs = search needs
 
 step-refusal-requires : tie.Need-step-refusal-requires
 step-refusal-requires c κs = search needs
@@ -21,8 +28,8 @@ returns : tie.Need-returns
 unfolding grantCall
 returns c =
     let n = c .before .before in
-    let a = n .before .args .self in
-    c .answered .ensures ∙ refused-by (stepTests grantDue a) (n .step-refusal .ensures) (afterGrant a) a refl (c .before .if1 .taken)
+    let a = n .before .before .args .self in
+    c .answered .ensures ∙ refused-by (stepTests grantDue a) (refusal n) (afterGrant a) a refl (c .before .if1 .taken)
 
 granted-all-requires : tie.Need-granted-all-requires
 granted-all-requires c κs = search needs
@@ -39,11 +46,11 @@ returns-2 c =
     let made = c .before .before in
     let p = passed (made .before) in
     let n = p .before in
-    let a = n .before .args .self in
+    let a = n .before .before .args .self in
     c .answered2 .ensures
-    ∙ finished-by (stepTests grantDue a) (n .step-refusal .ensures) (afterGrant a) a refl (p .if1 .left)
+    ∙ finished-by (stepTests grantDue a) (refusal n) (afterGrant a) a refl (p .if1 .left)
     (simp (c .before .calmed-all .ensures, made .granted-all .ensures))
 
 pub grant-spec : {M : Type 1} → statement M
 grant-spec =
-    tie.close (tie.spec step-refusal-requires answered-requires returns granted-all-requires calmed-all-requires answered-requires-2 returns-2)
+    tie.close (tie.spec sound-requires step-refusal-requires answered-requires returns granted-all-requires calmed-all-requires answered-requires-2 returns-2)

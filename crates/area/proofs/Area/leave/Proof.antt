@@ -12,10 +12,13 @@ use Rattle.area.proofs.Area.leave.Tie as tie
 
 -- every test is passed before the record is read
 abbrev passed : tie.After-before2 → tie.Else1
-passed c = c .before .before .before
+passed c = c .before .before
+
+sound-requires : tie.Need-sound-requires
+sound-requires c κs = search needs
 
 leave-refusal-requires : tie.Need-leave-refusal-requires
-leave-refusal-requires c κs = search needs
+leave-refusal-requires c κs = c .sound .ensures
 
 answered-requires : tie.Need-answered-requires
 answered-requires c κs = search needs
@@ -24,13 +27,13 @@ returns : tie.Need-returns
 unfolding leaveCall
 returns c =
     let n = c .before .before in
-    let a = n .before .args .self in
-    let t = n .before .args .train in
+    let a = n .before .before .args .self in
+    let t = n .before .before .args .train in
     c .answered .ensures ∙ refused-by (leaveTests a t) (n .leave-refusal .ensures) (afterLeave a t) a refl (c .before .if1 .taken)
 
 cast-t : tie.Need-cast-t
 cast-t c =
-    let a = c .before .before .args in
+    let a = c .before .before .before .args in
     let numbered = passed-by (leaveTests (a .self) (a .train)) (c .before .leave-refusal .ensures) refl (c .if1 .left) 13 in
     let h = within mostTrains (a .train) numbered in
     omega arith
@@ -54,8 +57,8 @@ returns-2 c =
     let freed = off .before in
     let p = passed (freed .before) in
     let n = p .before in
-    let a = n .before .args .self in
-    let t = n .before .args .train in
+    let a = n .before .before .args .self in
+    let t = n .before .before .args .train in
     c .answered2 .ensures
     ∙ finished-by (leaveTests a t) (n .leave-refusal .ensures) (afterLeave a t) a refl (p .if1 .left)
     (simp (c .before .with-train .ensures, off .train-off .ensures, freed .freed-all .ensures))
@@ -64,6 +67,7 @@ pub leave-spec : {M : Type 1} → statement M
 leave-spec =
     tie.close
     (tie.spec
+    sound-requires
     leave-refusal-requires
     answered-requires
     returns

@@ -1,7 +1,8 @@
 -- As for every step; that the record is sound, test 11 passed, gives each train the room that its move asks for.
-use mathlib.Core.Path.{refl, _∙_}
+use mathlib.Core.Path.{_≡_, refl, _∙_}
 use borrow.Author.Tests.{not-false}
 use borrow.Author.Needs.{needs}
+use Rattle.lists.specs.Tests.{firstOf}
 use Rattle.trains.specs.Due.{positionDue}
 use Rattle.area.specs.Calls.{stepTests, afterPosition, positionCall}
 use Rattle.lists.proofs.Numbered.{long-of}
@@ -14,6 +15,12 @@ use Rattle.area.proofs.Area.position.Tie as tie
 abbrev passed : tie.After-before2 → tie.Else1
 passed c = c .before .before .before
 
+refusal : (c : tie.After-step-refusal) → c .step-refusal .result ≡ firstOf (stepTests positionDue (c .before .before .args .self)) .number
+refusal c = rw (c .before .sound .ensures) at (c .step-refusal .ensures)
+
+sound-requires : tie.Need-sound-requires
+sound-requires c κs = search needs
+
 step-refusal-requires : tie.Need-step-refusal-requires
 step-refusal-requires c κs = search needs
 
@@ -24,8 +31,8 @@ returns : tie.Need-returns
 unfolding positionCall
 returns c =
     let n = c .before .before in
-    let a = n .before .args .self in
-    c .answered .ensures ∙ refused-by (stepTests positionDue a) (n .step-refusal .ensures) (afterPosition a) a refl (c .before .if1 .taken)
+    let a = n .before .before .args .self in
+    c .answered .ensures ∙ refused-by (stepTests positionDue a) (refusal n) (afterPosition a) a refl (c .before .if1 .taken)
 
 released-all-requires : tie.Need-released-all-requires
 released-all-requires c κs = search needs
@@ -33,8 +40,8 @@ released-all-requires c κs = search needs
 moved-all-requires : tie.Need-moved-all-requires
 moved-all-requires c κs =
     let p = passed (c .before) in
-    let a = p .before .before .args .self in
-    let unsound = passed-by (stepTests positionDue a) (p .before .step-refusal .ensures) refl (p .if1 .left) 11 in
+    let a = p .before .before .before .args .self in
+    let unsound = passed-by (stepTests positionDue a) (refusal (p .before)) refl (p .if1 .left) 11 in
     room-of a (sound-iff a .0 (not-false _ unsound)) (search long-of)
 
 answered-requires-2 : tie.Need-answered-requires-2
@@ -46,11 +53,11 @@ returns-2 c =
     let made = c .before .before in
     let p = passed (made .before) in
     let n = p .before in
-    let a = n .before .args .self in
+    let a = n .before .before .args .self in
     c .answered2 .ensures
-    ∙ finished-by (stepTests positionDue a) (n .step-refusal .ensures) (afterPosition a) a refl (p .if1 .left)
+    ∙ finished-by (stepTests positionDue a) (refusal n) (afterPosition a) a refl (p .if1 .left)
     (simp (c .before .moved-all .ensures, made .released-all .ensures))
 
 pub position-spec : {M : Type 1} → statement M
 position-spec =
-    tie.close (tie.spec step-refusal-requires answered-requires returns released-all-requires moved-all-requires answered-requires-2 returns-2)
+    tie.close (tie.spec sound-requires step-refusal-requires answered-requires returns released-all-requires moved-all-requires answered-requires-2 returns-2)

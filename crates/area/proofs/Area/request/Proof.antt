@@ -1,10 +1,17 @@
-use mathlib.Core.Path.{refl, _∙_}
+use mathlib.Core.Path.{_≡_, refl, _∙_}
 use borrow.Author.Needs.{needs}
+use Rattle.lists.specs.Tests.{firstOf}
 use Rattle.trains.specs.Due.{requestDue}
 use Rattle.area.specs.Calls.{stepTests, afterRequest, requestCall}
 use Rattle.area.proofs.Laws.{refused-by, finished-by}
 use Rattle.area.proofs.Area.request.Statement.{statement}
 use Rattle.area.proofs.Area.request.Tie as tie
+
+refusal : (c : tie.After-step-refusal) → c .step-refusal .result ≡ firstOf (stepTests requestDue (c .before .before .args .self)) .number
+refusal c = rw (c .before .sound .ensures) at (c .step-refusal .ensures)
+
+sound-requires : tie.Need-sound-requires
+sound-requires c κs = search needs
 
 step-refusal-requires : tie.Need-step-refusal-requires
 step-refusal-requires c κs = search needs
@@ -16,8 +23,8 @@ returns : tie.Need-returns
 unfolding requestCall
 returns c =
     let n = c .before .before in
-    let a = n .before .args .self in
-    c .answered .ensures ∙ refused-by (stepTests requestDue a) (n .step-refusal .ensures) (afterRequest a) a refl (c .before .if1 .taken)
+    let a = n .before .before .args .self in
+    c .answered .ensures ∙ refused-by (stepTests requestDue a) (refusal n) (afterRequest a) a refl (c .before .if1 .taken)
 
 requested-all-requires : tie.Need-requested-all-requires
 requested-all-requires c κs = search needs
@@ -30,10 +37,10 @@ unfolding requestCall afterRequest
 returns-2 c =
     let passed = c .before .before .before .before .before in
     let n = passed .before in
-    let a = n .before .args .self in
+    let a = n .before .before .args .self in
     c .answered2 .ensures
-    ∙ finished-by (stepTests requestDue a) (n .step-refusal .ensures) (afterRequest a) a refl (passed .if1 .left) (simp (c .before .requested-all .ensures))
+    ∙ finished-by (stepTests requestDue a) (refusal n) (afterRequest a) a refl (passed .if1 .left) (simp (c .before .requested-all .ensures))
 
 pub request-spec : {M : Type 1} → statement M
 request-spec =
-    tie.close (tie.spec step-refusal-requires answered-requires returns requested-all-requires answered-requires-2 returns-2)
+    tie.close (tie.spec sound-requires step-refusal-requires answered-requires returns requested-all-requires answered-requires-2 returns-2)

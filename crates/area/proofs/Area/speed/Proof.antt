@@ -1,9 +1,10 @@
 -- The number of the first test that holds decides the outcome; where none does, the contract of the new speeds makes the record.
-use mathlib.Core.Path.{refl, _∙_}
+use mathlib.Core.Path.{_≡_, refl, _∙_}
 use mathlib.Core.List.{List}
 use Prim.Native.Nat.{ℕ}
 use denote.Ref.{now}
 use borrow.Author.Needs.{needs}
+use Rattle.lists.specs.Tests.{firstOf}
 use Rattle.area.specs.Calls.{speedTests, afterSpeed, speedCall}
 use Rattle.area.proofs.Laws.{refused-by, finished-by}
 use Rattle.area.proofs.Area.speed.Statement.{statement}
@@ -11,6 +12,12 @@ use Rattle.area.proofs.Area.speed.Tie as tie
 
 abbrev wishes : tie.Start → List ℕ
 wishes s = now (s .args .wishes)
+
+refusal : (c : tie.After-speed-refusal) → let s = c .before .before .before in c .speed-refusal .result ≡ firstOf (speedTests (s .args .self) (wishes s)) .number
+refusal c = rw (c .before .sound .ensures) at (c .speed-refusal .ensures)
+
+sound-requires : tie.Need-sound-requires
+sound-requires c κs = search needs
 
 speed-refusal-requires : tie.Need-speed-refusal-requires
 speed-refusal-requires c κs = search needs
@@ -22,9 +29,9 @@ returns : tie.Need-returns
 unfolding speedCall
 returns c =
     let n = c .before .before in
-    let s = n .before .before in
+    let s = n .before .before .before in
     let a = s .args .self in
-    c .answered .ensures ∙ refused-by (speedTests a (wishes s)) (n .speed-refusal .ensures) (afterSpeed a (wishes s)) a refl (c .before .if1 .taken)
+    c .answered .ensures ∙ refused-by (speedTests a (wishes s)) (refusal n) (afterSpeed a (wishes s)) a refl (c .before .if1 .taken)
 
 sped-all-requires : tie.Need-sped-all-requires
 sped-all-requires c κs = search needs
@@ -37,12 +44,12 @@ unfolding speedCall afterSpeed
 returns-2 c =
     let passed = c .before .before .before .before .before in
     let n = passed .before in
-    let s = n .before .before in
+    let s = n .before .before .before in
     let a = s .args .self in
     c .answered2 .ensures
-    ∙ finished-by (speedTests a (wishes s)) (n .speed-refusal .ensures) (afterSpeed a (wishes s)) a refl (passed .if1 .left)
+    ∙ finished-by (speedTests a (wishes s)) (refusal n) (afterSpeed a (wishes s)) a refl (passed .if1 .left)
     (simp (c .before .sped-all .ensures))
 
 pub speed-spec : {M : Type 1} → statement M
 speed-spec =
-    tie.close (tie.spec speed-refusal-requires answered-requires returns sped-all-requires answered-requires-2 returns-2)
+    tie.close (tie.spec sound-requires speed-refusal-requires answered-requires returns sped-all-requires answered-requires-2 returns-2)
