@@ -3,7 +3,7 @@ use Prim.Native.Nat.{ℕ, _+_, _-_, _/_, _%_}
 use mathlib.Core.List.{List}
 use Rattle.lists.specs.Words.{tabulate}
 use Rattle.file.specs.Bytes.{byteAt, twoAt, fourAt}
-use Rattle.file.specs.Layout.{headerBlock, inHeader, segmentBlockOf, segmentStart, inSegment, routeBlocks, routeZeros}
+use Rattle.file.specs.Layout.{headerBlock, inHeader, segmentBlockOf, segmentStart, inSegment, firstRouteBlock, routeZeros}
 use Rattle.file.specs.Blocks.{block}
 use Rattle.tables.specs.declared.Tables.{Tables}
 
@@ -26,7 +26,7 @@ flagsIn file s = byteAt (segmentBlock file s) (segmentStart s + inSegment .flags
 
 -- byte k of all route records, counted from 1; a route block has as many of them as stand before its zeros
 unfoldable pub routeByteIn : List ℕ → ℕ → ℕ
-routeByteIn file k = byteAt (block file (routeBlocks + (k - 1) / routeZeros)) ((k - 1) % routeZeros)
+routeByteIn file k = byteAt (block file (firstRouteBlock + (k - 1) / routeZeros)) ((k - 1) % routeZeros)
 
 unfoldable pub decoded : List ℕ → Tables
 decoded file =

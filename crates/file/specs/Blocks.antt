@@ -7,7 +7,7 @@ use lib.Dec.{eqb, ltb}
 use Rattle.lists.specs.Words.{if_then_else_, firstFailing}
 use Rattle.file.specs.Bytes.{byteAt, zeros}
 pub use Rattle.file.specs.Layout.{blocks, blockSize, fileSize}
-use Rattle.file.specs.Layout.{routeBlocks, inTail, kindOf, routeZeros}
+use Rattle.file.specs.Layout.{firstRouteBlock, inTail, kindOf, routeZeros}
 
 -- the block of a number, 0 to 4
 unfoldable pub block : List ℕ → ℕ → List ℕ
@@ -36,7 +36,7 @@ filed b k =
     eqb (byteAt b (inTail .kind)) (kindOf k)
     && eqb (byteAt b (inTail .number)) k
     && zeros b (inTail .zeros) (inTail .zerosLast)
-    && (ltb k routeBlocks || zeros b routeZeros (inTail .body))
+    && (ltb k firstRouteBlock || zeros b routeZeros (inTail .bodyLast))
 
 -- rule 2 or rule 3 of block k, and the first block that breaks it; counted from 1, so that 0 stands for none
 abbrev pub blockMeets : (rule : ℕ) → List ℕ → ℕ → Bool

@@ -21,15 +21,15 @@ fileSize = blocks * blockSize
 abbrev pub headerBlock : ℕ
 headerBlock = 0
 
-abbrev pub segmentBlocks : ℕ
-segmentBlocks = 1
+abbrev pub firstSegmentBlock : ℕ
+firstSegmentBlock = 1
 
-abbrev pub routeBlocks : ℕ
-routeBlocks = 3
+abbrev pub firstRouteBlock : ℕ
+firstRouteBlock = 3
 
--- the tail of each block: kind, block number, zeros (a first and a last byte), the check; `body` is the last byte before it
+-- the tail of each block: kind, block number, zeros (a first and a last byte), the check; `bodyLast` is the last byte before it
 pub record TailPlaces : Type 0 where
-  pub body : ℕ
+  pub bodyLast : ℕ
   pub kind : ℕ
   pub number : ℕ
   pub zeros : ℕ
@@ -37,11 +37,11 @@ pub record TailPlaces : Type 0 where
   pub check : ℕ
 
 abbrev pub inTail : TailPlaces
-inTail = record { body = 495; kind = 496; number = 497; zeros = 498; zerosLast = 509; check = 510 }
+inTail = record { bodyLast = 495; kind = 496; number = 497; zeros = 498; zerosLast = 509; check = 510 }
 
 -- kinds: 1 header, 2 and 2 segments, 3 and 3 routes
 unfoldable pub kindOf : ℕ → ℕ
-kindOf k = if eqb k headerBlock then 1 else (if ltb k routeBlocks then 2 else 3)
+kindOf k = if eqb k headerBlock then 1 else (if ltb k firstRouteBlock then 2 else 3)
 
 abbrev pub tailBytes : (number first second : ℕ) → List ℕ
 tailBytes number first second = kindOf number ∷ number ∷ replicate 12 0 ++ first ∷ second ∷ []
@@ -72,7 +72,7 @@ headerBytes segments routes gmax b d = version ∷ segments ∷ routes ∷ 0 ∷
 
 -- segment records, 16 bytes, 31 a block: the block of record s, and where it starts there
 abbrev pub segmentBlockOf : ℕ → ℕ
-segmentBlockOf s = segmentBlocks + (s - 1) / 31
+segmentBlockOf s = firstSegmentBlock + (s - 1) / 31
 
 abbrev pub segmentStart : ℕ → ℕ
 segmentStart s = 16 * ((s - 1) % 31)
@@ -96,7 +96,7 @@ segmentBytes length limit next1 next2 previous1 previous2 flags =
 
 -- route records, 32 bytes, 15 a block: the block of record r, and where it starts there; after the records, zeros up to the tail
 abbrev pub routeBlockOf : ℕ → ℕ
-routeBlockOf r = routeBlocks + (r - 1) / 15
+routeBlockOf r = firstRouteBlock + (r - 1) / 15
 
 abbrev pub routeStart : ℕ → ℕ
 routeStart r = 32 * ((r - 1) % 15)

@@ -21,7 +21,7 @@ unfoldable pub headerFiled : List ℕ → Bool
 headerFiled file =
     eqb (byteAt (block file headerBlock) (inHeader .version)) version
     && eqb (byteAt (block file headerBlock) (inHeader .zero)) 0
-    && zeros (block file headerBlock) (inHeader .zeros) (inTail .body)
+    && zeros (block file headerBlock) (inHeader .zeros) (inTail .bodyLast)
 
 -- rule 6 of what the tables do not keep: the five zeros that end segment record s
 unfoldable pub reserved : List ℕ → ℕ → Bool

@@ -18,7 +18,7 @@ use Rattle.decoding.specs.Decoding.{decoded}
 use Rattle.trains.specs.declared.Train.{Train}
 use Rattle.trains.specs.Train.{off}
 use Rattle.area.specs.declared.Area.{Area}
-use Rattle.state.specs.State.{trainBytes, trainRows, headBytes, stateBytes, stateInto, tablesOf}
+use Rattle.state.specs.State.{trainBytes, trainRows, headSize, headBytes, stateBytes, stateInto, tablesOf}
 
 -- a truth value as a byte
 bool-byte : (b : Bool) → boolByte b ≡ (if b then 1 else 0)
@@ -44,7 +44,7 @@ head-put due allocations long = rw (long, take-all 63 allocations (omega arith))
 -- the rows of the trains from index i on are left to put
 pub record Left (trains : List Train) (old : List ℕ) (i : ℕ) (new : List ℕ) : Type 0 where
   pub long : length new ≡ length old
-  pub rest : putAt (64 + 32 * i) (trainRows (drop i trains)) new ≡ putAt 64 (trainRows trains) old
+  pub rest : putAt (headSize + 32 * i) (trainRows (drop i trains)) new ≡ putAt headSize (trainRows trains) old
 
 module _ {trains : List Train} {old : List ℕ} where
   pub left-all : Left trains old 0 old
@@ -52,28 +52,28 @@ module _ {trains : List Train} {old : List ℕ} where
 
   module _ {i : ℕ} {new : List ℕ} (left : Left trains old i new) where
     pub left-fewer :
-        {row next : List ℕ} → i < length trains → row ≡ trainBytes (getD trains i off) → next ≡ putAt (64 + 32 * i) row new
+        {row next : List ℕ} → i < length trains → row ≡ trainBytes (getD trains i off) → next ≡ putAt (headSize + 32 * i) row new
         → length next ≡ length new → Left trains old (i + 1) next
     left-fewer {row} {next} below e put long =
         let x = getD trains i off in
         let first : drop i trains ≡ x ∷ drop (i + 1) trains = rw (add-one i) (drop-cons trains i off below) in
-        let place : 64 + 32 * (i + 1) ≡ 64 + 32 * i + 32 = omega arith in
+        let place : headSize + 32 * (i + 1) ≡ headSize + 32 * i + 32 = omega arith in
         record {
           long = long ∙ left .long;
           rest =
               rw (put, e, place)
-              (put-next (64 + 32 * i) (trainBytes x) (trainRows (drop (i + 1) trains)) new
+              (put-next (headSize + 32 * i) (trainBytes x) (trainRows (drop (i + 1) trains)) new
               ∙ rw first at (left .rest));
         }
 
-    pub left-none : length trains ≤ i → new ≡ putAt 64 (trainRows trains) old
-    left-none h = sym (put-nothing (64 + 32 * i) new) ∙ rw (drop-of-length-le trains h) at (left .rest)
+    pub left-none : length trains ≤ i → new ≡ putAt headSize (trainRows trains) old
+    left-none h = sym (put-nothing (headSize + 32 * i) new) ∙ rw (drop-of-length-le trains h) at (left .rest)
 
 -- the 64 bytes before the trains, and the trains
-pub state-put : (a : Area) (old : List ℕ) → length (a .allocations) ≡ 62 → putAt 64 (trainRows (a .trains)) (putAt 0 (headBytes (a .due) (a .allocations)) old) ≡ stateInto a old
+pub state-put : (a : Area) (old : List ℕ) → length (a .allocations) ≡ 62 → putAt headSize (trainRows (a .trains)) (putAt 0 (headBytes (a .due) (a .allocations)) old) ≡ stateInto a old
 unfolding stateInto stateBytes
 state-put a old long =
-    let e : 0 + length (headBytes (a .due) (a .allocations)) ≡ 64 = simp (length-append, long) in
+    let e : 0 + length (headBytes (a .due) (a .allocations)) ≡ headSize = simp (length-append, long) in
     rw e at (put-next 0 (headBytes (a .due) (a .allocations)) (trainRows (a .trains)) old)
 
 -- the tables that a file's bytes spell

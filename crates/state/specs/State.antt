@@ -28,17 +28,21 @@ inTrain = record { route = 0; place = 1; asks = 2; position = 4; speed = 8 }
 abbrev pub trainBytes : Train → List ℕ
 trainBytes x = x .route ∷ x .place ∷ (if x .asks then 1 else 0) ∷ 0 ∷ four (x .position) ++ two (x .speed) ++ replicate 22 0
 
--- the trains' rows one after the other; where that of train t starts in the state
+-- the trains' rows one after the other
 abbrev pub trainRows : List Train → List ℕ
 trainRows [] = []
 trainRows (x ∷ trains) = trainBytes x ++ trainRows trains
 
-abbrev pub trainStart : ℕ → ℕ
-trainStart t = 64 + 32 * (t - 1)
+-- the 64 bytes before them: the step due, the allocations of the 62 segments, a zero
+abbrev pub headSize : ℕ
+headSize = 64
 
--- the 64 bytes before the trains: the step due, the allocations of the 62 segments, a zero
 abbrev pub headBytes : (due : ℕ) (allocations : List ℕ) → List ℕ
 headBytes due allocations = due ∷ allocations ++ 0 ∷ []
+
+-- where train t starts
+abbrev pub trainStart : ℕ → ℕ
+trainStart t = headSize + 32 * (t - 1)
 
 unfoldable pub stateBytes : Area → List ℕ
 stateBytes a = headBytes (a .due) (a .allocations) ++ trainRows (a .trains)

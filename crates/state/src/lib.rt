@@ -4,7 +4,7 @@ ghost use Prim.Native.Nat.{_+_};
 ghost use Rattle.lists.specs.Words.{tabulate};
 ghost use Rattle.file.specs.Bytes.{byteAt, putAt};
 ghost use Rattle.trains.specs.Train.{mostTrains};
-ghost use Rattle.state.specs.State.{trainBytes, trainRows, headBytes, stateInto, tablesOf, trainOf, recordOf};
+ghost use Rattle.state.specs.State.{trainBytes, trainRows, headSize, headBytes, stateInto, tablesOf, trainOf, recordOf};
 use area::Area;
 use tables::Tables;
 use trains::Train;
@@ -41,7 +41,7 @@ fn head_bytes(due: u8, allocations: [u8; 62]) -> [u8; 64]
 }
 
 fn write_trains(trains: [Train; 24], buffer: &mut [u8])
-    ensures { λ _. ⌜ now (buffer .exit) ≡ putAt 64 (trainRows trains) (now (buffer .entry)) ⌝ }
+    ensures { λ _. ⌜ now (buffer .exit) ≡ putAt headSize (trainRows trains) (now (buffer .entry)) ⌝ }
 {
     for i in 0..24 {
         let row = train_bytes(trains[i]);
