@@ -2,18 +2,17 @@
 // a result beside the returned one goes through a reference. The layouts are in docs/FORMATS.md, the declarations in include/.
 ghost use mathlib.Core.Path.{_≡_};
 ghost use lib.ListN.{length};
-ghost use Rattle.lists.specs.Words.{if_then_else_};
 ghost use Rattle.decoding.specs.Decoding.{decoded};
 ghost use Rattle.view.specs.View.{viewStart, viewCount};
 ghost use Rattle.answers.specs.Answers.{numberOf, placeOf};
 ghost use Rattle.loading.specs.Load.{loaded};
 ghost use Rattle.area.specs.Sound.{sound};
 ghost use Rattle.area.specs.Calls.{reported};
-ghost use Rattle.separation.specs.Runs.{isDone};
 ghost use Rattle.separation.specs.Claim.{Separated};
 ghost use Rattle.runs.specs.Ran.{ranOf, written, fileWorld, fileRanOf, fileWritten};
 ghost use Rattle.state.specs.State.{stateInto, recordOf};
 ghost use Rattle.unit.specs.Distance.{distanceAt};
+ghost use Rattle.unit.specs.After.{areaAfter, stateAfter};
 use answers::Answer;
 use area::Area;
 
@@ -72,7 +71,7 @@ pub extern "C" fn rbu_run_file(
 ) -> usize
     ensures { λ r. ⌜ r ≡ fileRanOf (now (file .entry)) (now (script .entry)) (length (now (answers .entry))) .calls ⌝ }
     ensures { λ _. ⌜ now (answers .exit) ≡ fileWritten (now (file .entry)) (now (script .entry)) (now (answers .entry)) ⌝ }
-    ensures { λ _. ⌜ now (state .exit) ≡ (if isDone (loaded (now (file .entry)) .answer) then stateInto (fileRanOf (now (file .entry)) (now (script .entry)) (length (now (answers .entry))) .area) (now (state .entry)) else now (state .entry)) ⌝ }
+    ensures { λ _. ⌜ now (state .exit) ≡ stateAfter (now (file .entry)) (now (script .entry)) (length (now (answers .entry))) (now (state .entry)) ⌝ }
     ensures { λ _. ⌜ (now (number .exit) ≡ numberOf (loaded (now (file .entry)) .answer)) × (now (place .exit) ≡ placeOf (loaded (now (file .entry)) .answer)) ⌝ }
     ensures { λ _. ⌜ (numberOf (loaded (now (file .entry)) .answer) ≡ 0 → Separated (decoded (now (file .entry))) (fileWorld (now (file .entry)) (now (script .entry)) (length (now (answers .entry))))) ⌝ }
 {
@@ -96,9 +95,10 @@ pub extern "C" fn rbu_report_file(
     allocated: &mut u8,
     free: &mut u8,
 ) -> u8
-    ensures { λ r. ⌜ r ≡ numberOf (reported (fileRanOf (now (file .entry)) (now (script .entry)) (length (now (answers .entry))) .area) .answer) ⌝ }
+    ensures { λ r. ⌜ r ≡ numberOf (reported (areaAfter (now (file .entry)) (now (script .entry)) (length (now (answers .entry)))) .answer) ⌝ }
     ensures { λ _. ⌜ now (answers .exit) ≡ fileWritten (now (file .entry)) (now (script .entry)) (now (answers .entry)) ⌝ }
-    ensures { λ _. ⌜ (now (allocated .exit) ≡ reported (fileRanOf (now (file .entry)) (now (script .entry)) (length (now (answers .entry))) .area) .allocated) × (now (free .exit) ≡ reported (fileRanOf (now (file .entry)) (now (script .entry)) (length (now (answers .entry))) .area) .free) ⌝ }
+    ensures { λ _. ⌜ now (allocated .exit) ≡ reported (areaAfter (now (file .entry)) (now (script .entry)) (length (now (answers .entry)))) .allocated ⌝ }
+    ensures { λ _. ⌜ now (free .exit) ≡ reported (areaAfter (now (file .entry)) (now (script .entry)) (length (now (answers .entry)))) .free ⌝ }
 {
     let ran = runs::run_file(file, script, answers);
     tell_report(ran.area, allocated, free)
@@ -139,7 +139,8 @@ pub extern "C" fn rbu_report_record(
     free: &mut u8,
 ) -> u8
     ensures { λ r. ⌜ r ≡ numberOf (reported (recordOf (now (file .entry)) (now (state .entry))) .answer) ⌝ }
-    ensures { λ _. ⌜ (now (allocated .exit) ≡ reported (recordOf (now (file .entry)) (now (state .entry))) .allocated) × (now (free .exit) ≡ reported (recordOf (now (file .entry)) (now (state .entry))) .free) ⌝ }
+    ensures { λ _. ⌜ now (allocated .exit) ≡ reported (recordOf (now (file .entry)) (now (state .entry))) .allocated ⌝ }
+    ensures { λ _. ⌜ now (free .exit) ≡ reported (recordOf (now (file .entry)) (now (state .entry))) .free ⌝ }
 {
     let area = state::record_of(file, state);
     tell_report(area, allocated, free)
