@@ -1,3 +1,4 @@
+-- The bytes before the trains are put, and the trains after them.
 use mathlib.Core.Path.{_≡_, _∙_}
 use lib.ListN.{length}
 use borrow.Author.Needs.{needs}
