@@ -1,3 +1,4 @@
+-- Where a route is shown, its record starts at the place of its number, and the count stands first there.
 use Prim.Native.Nat.{_+_, _-_}
 use mathlib.Core.Path.{_≡_, sym, _∙_}
 use mathlib.Core.Bool.{true}
