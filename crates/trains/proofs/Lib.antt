@@ -1,5 +1,5 @@
+pub mod Laws
 pub mod Segments
-pub mod Spots
 pub mod Safety
 pub mod Soundness
 pub mod Grant

@@ -4,7 +4,7 @@ ghost use Prim.Native.Nat.{_-_};
 ghost use lib.Dec.{leb, eqb};
 ghost use Rattle.lists.specs.Words.{at, each};
 ghost use Rattle.trains.specs.Train.{off, entered, withSpeed, withAsking, movedTo, trainAt, ownIn, nextIn, occupiedIn, aheadIn, wantedIn};
-ghost use Rattle.trains.specs.Spot.{spotIn};
+ghost use Rattle.trains.specs.Spot.{spotIn, noSpot, standsIn};
 ghost use Rattle.trains.specs.Cycle.{wants};
 use lists::entry_u8;
 use lists::entry_u16;
@@ -158,7 +158,7 @@ fn is_held(allocations: &[u8; 62], s: u8, t: u8) -> bool
     entry_u8(allocations, s as usize) == t
 }
 
-pub fn spot_of<'a>(
+fn spot_of<'a>(
     routebytes: &'a [u8; 960],
     lengths: &'a [u32; 62],
     limits: &'a [u16; 62],
@@ -184,8 +184,10 @@ pub fn spot_of<'a>(
     }
 }
 
-// Where no train stands.
-fn no_spot() -> Spot {
+// A train off stands nowhere.
+fn no_spot() -> Spot
+    ensures { λ r. ⌜ r ≡ noSpot ⌝ }
+{
     Spot {
         count: 0,
         length: 0,
@@ -198,6 +200,23 @@ fn no_spot() -> Spot {
     }
 }
 
+fn stands_at<'a>(
+    routebytes: &'a [u8; 960],
+    lengths: &'a [u32; 62],
+    limits: &'a [u16; 62],
+    allocations: &'a [u8; 62],
+    margin: u32,
+    t: u8,
+    x: Train,
+) -> Spot
+    ensures { λ r. ⌜ r ≡ standsIn (now (routebytes .entry)) (now (lengths .entry)) (now (limits .entry)) margin (at (now (allocations .entry))) t x ⌝ }
+{
+    if x.route == 0 {
+        return no_spot();
+    }
+    spot_of(routebytes, lengths, limits, allocations, margin, t, x)
+}
+
 // Where each train stands.
 pub fn spots_of<'a>(
     routebytes: &'a [u8; 960],
@@ -207,13 +226,13 @@ pub fn spots_of<'a>(
     margin: u32,
     trains: [Train; 24],
 ) -> [Spot; 24]
-    ensures { λ r. ⌜ r ≡ each (spotIn (now (routebytes .entry)) (now (lengths .entry)) (now (limits .entry)) margin (at (now (allocations .entry)))) trains ⌝ }
+    ensures { λ r. ⌜ r ≡ each (standsIn (now (routebytes .entry)) (now (lengths .entry)) (now (limits .entry)) margin (at (now (allocations .entry)))) trains ⌝ }
 {
     let mut new = [no_spot(); 24];
     let mut i: usize = 0;
     while i < 24 {
         let x = trains[i];
-        new[i] = spot_of(
+        new[i] = stands_at(
             routebytes,
             lengths,
             limits,

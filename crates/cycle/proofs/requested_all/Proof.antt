@@ -1,22 +1,35 @@
 -- The loop makes each train of the spot beside it; the spots are those of the same trains.
 use Prim.Native.Nat.{ℕ, _-_}
+use mathlib.Core.Path.{_≡_, _∙_}
 use mathlib.Core.List.{List}
 use native.Mathlib.Omega.{arith}
 use borrow.Author.Needs.{needs}
-use Rattle.lists.specs.Words.{if_then_else_, nth, at}
-use Rattle.lists.proofs.Numbered.{long-of, nth-index, made-beside}
+use Rattle.lists.specs.Words.{if_then_else_, nth, at, each}
+use Rattle.lists.proofs.Numbered.{long-of, nth-index, made-beside, each-same}
 use Rattle.lists.proofs.Loops.{Made, make-begin, make-more, make-over}
+use Rattle.tables.specs.declared.Tables.{Tables}
 use Rattle.trains.specs.declared.Train.{Train}
 use Rattle.trains.specs.declared.Spot.{Spot}
 use Rattle.trains.specs.Train.{off, withAsking, isOn}
 use Rattle.trains.specs.Cycle.{wants, requested}
-use Rattle.trains.proofs.Spots.{noSpot}
+use Rattle.trains.specs.Spot.{noSpot, standsOf}
+use Rattle.trains.proofs.Laws.{stands-same}
 use Rattle.cycle.proofs.requested_all.Statement.{statement}
 use Rattle.cycle.proofs.requested_all.Tie as tie
 
 -- what becomes of the train of a number that stands at a spot
 abbrev made : ℕ → Spot → Train → Train
 made n p x = if isOn x then withAsking x (wants p) else x
+
+-- of the spots of the same trains it is what becomes of them at request
+made-all :
+    (T : Tables) (A : List ℕ) (trains : List Train) {spots : List Spot} {new : List Train}
+    → spots ≡ each (standsOf T (at A)) trains → new ≡ each (λ (n : ℕ) (x : Train). made n (nth noSpot spots n) x) trains
+    → new ≡ each (requested T A) trains
+unfolding requested
+made-all T A trains e h =
+    made-beside noSpot (standsOf T (at A)) made trains e h
+    ∙ each-same _ _ trains (λ n x low high. stands-same T (at A) n x (λ (p : Spot). withAsking x (wants p)) x)
 
 abbrev Inv-loop : tie.InvT-loop
 Inv-loop trains spots new₀ i₀ new i = Made 24 (λ (n : ℕ) (x : Train). made n (nth noSpot spots n) x) trains trains i new
@@ -63,10 +76,7 @@ loop-again c =
     make-more (l .before .loop .inv) off (l .loop-test .taken) (rw nth-index (c .requested-train .ensures))
 
 returns : tie.Need-returns Inv-loop μ-loop
-unfolding requested
-returns c =
-    let l = c .before in
-    made-beside noSpot _ (made) _ (l .before .spots-of .ensures) (make-over (l .loop .inv) (c .loop-test .left))
+returns c = let l = c .before in made-all _ _ _ (l .before .spots-of .ensures) (make-over (l .loop .inv) (c .loop-test .left))
 
 pub requested-all-spec : {M : Type 1} → statement M
 requested-all-spec =

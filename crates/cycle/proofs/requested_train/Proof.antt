@@ -1,5 +1,5 @@
 use borrow.Author.Needs.{needs}
-use Rattle.cycle.proofs.Laws.{train-off, train-on}
+use Rattle.trains.proofs.Laws.{train-off, train-on}
 use Rattle.cycle.proofs.requested_train.Statement.{statement}
 use Rattle.cycle.proofs.requested_train.Tie as tie
 

@@ -1,11 +1,12 @@
 -- The loop tests each train at the spot beside it; the spots are those of the same trains, so these are the tests of the record.
 use Prim.Native.Nat.{ℕ, _+_, _-_, _≤_, _<_}
 use mathlib.Core.Path.{_≡_, sym, ap, _∙_}
-use mathlib.Core.Bool.{Bool, true}
+use mathlib.Core.Bool.{Bool, true, _&&_}
 use mathlib.Core.List.{List}
 use native.Mathlib.Omega.{arith}
 use lib.ListN.{length, getD}
 use borrow.Author.Needs.{needs}
+use borrow.Author.Tests.{lt-ltb}
 use Rattle.lists.specs.Words.{nth, at, each, every}
 use Rattle.lists.proofs.Cases.{test-fails, test-holds}
 use Rattle.lists.proofs.Loops.{every-none, every-more, every-fails, every-same}
@@ -15,10 +16,10 @@ use Rattle.tables.specs.declared.Tables.{Tables}
 use Rattle.tables.specs.Facts.{Consistent}
 use Rattle.trains.specs.declared.Train.{Train}
 use Rattle.trains.specs.declared.Spot.{Spot}
-use Rattle.trains.specs.Train.{mostTrains, off, trainAt}
-use Rattle.trains.specs.Spot.{spotOf}
-use Rattle.trains.specs.Sound.{placeSound, standsSound, trainSound}
-use Rattle.trains.proofs.Spots.{noSpot}
+use Rattle.trains.specs.Train.{mostTrains, off, trainAt, isOn}
+use Rattle.trains.specs.Spot.{spotOf, noSpot, standsOf}
+use Rattle.trains.specs.Sound.{offSound, placeSound, brakingSound, askingSound, standsSound, trainSound}
+use Rattle.trains.proofs.Laws.{stands-same}
 use Rattle.soundness.proofs.Laws.{limit-stops}
 use Rattle.soundness.proofs.trains_sound.Statement.{statement}
 use Rattle.soundness.proofs.trains_sound.Tie as tie
@@ -28,22 +29,29 @@ abbrev test : (T : Tables) (due : ℕ) (trains : List Train) (spots : List Spot)
 test T due trains spots t = standsSound (T .routes) (T .braking) due (nth noSpot spots t) (trainAt trains t)
 
 -- of the spots of the same trains: each is its train's, and the tests are those of the record
-module _ (T : Tables) (A : List ℕ) (due : ℕ) (trains : List Train) (spots : List Spot) (long : length trains ≡ mostTrains) (e : spots ≡ each (spotOf T (at A)) trains) where
-  spot-at : (t : ℕ) → 1 ≤ t → t ≤ mostTrains → nth noSpot spots t ≡ spotOf T (at A) t (trainAt trains t)
-  spot-at t low high = ap (λ (l : List Spot). nth noSpot l t) e ∙ nth-each-in off noSpot (spotOf T (at A)) trains t low (omega arith)
+module _ (T : Tables) (A : List ℕ) (due : ℕ) (trains : List Train) (spots : List Spot) (long : length trains ≡ mostTrains) (e : spots ≡ each (standsOf T (at A)) trains) where
+  spot-at : (t : ℕ) → 1 ≤ t → t ≤ mostTrains → nth noSpot spots t ≡ standsOf T (at A) t (trainAt trains t)
+  spot-at t low high = ap (λ (l : List Spot). nth noSpot l t) e ∙ nth-each-in off noSpot (standsOf T (at A)) trains t low (omega arith)
+
+  test-at : (t : ℕ) → 1 ≤ t → t ≤ mostTrains → test T due trains spots t ≡ trainSound T A due t (trainAt trains t)
+  unfolding standsSound
+  test-at t low high =
+      let x = trainAt trains t in
+      ap (λ (p : Spot). standsSound (T .routes) (T .braking) due p x) (spot-at t low high)
+      ∙ stands-same T (at A) t x (λ (p : Spot). placeSound (T .routes) p x && brakingSound (T .braking) due p x && askingSound due p x) (offSound x)
 
   all-tests : every mostTrains (test T due trains spots) ≡ every mostTrains (λ (t : ℕ). trainSound T A due t (trainAt trains t))
-  all-tests =
-      every-same mostTrains _ _ (λ t low high. ap (λ (p : Spot). standsSound (T .routes) (T .braking) due p (trainAt trains t)) (spot-at t low high))
+  all-tests = every-same mostTrains _ _ test-at
 
   stops-at :
       Consistent T → (i : ℕ) → i < mostTrains → 1 ≤ getD trains i off .route
       → placeSound (T .routes) (getD spots i noSpot) (getD trains i off) ≡ true → S (T .braking) (getD spots i noSpot .limit) ≤ T .margin
-  stops-at ok i below =
-      let s = spot-at (i + 1) (omega arith) (omega arith) in
-      let q : getD spots i noSpot ≡ spotOf T (at A) (i + 1) (getD trains i off) =
-      sym (nth-index noSpot spots i) ∙ (s ∙ ap (spotOf T (at A) (i + 1)) (nth-index off trains i)) in
-      rw q (limit-stops T ok (at A) (i + 1) (getD trains i off))
+  stops-at ok i below on =
+      let x = getD trains i off in
+      let q : getD spots i noSpot ≡ standsOf T (at A) (i + 1) x =
+      sym (nth-index noSpot spots i) ∙ (spot-at (i + 1) (omega arith) (omega arith) ∙ ap (standsOf T (at A) (i + 1)) (nth-index off trains i)) in
+      let o : isOn x ≡ true = lt-ltb 0 (x .route) on in
+      rw (q, o) (limit-stops T ok (at A) (i + 1) x on)
 
 abbrev Inv-loop : tie.InvT-loop
 Inv-loop due tables trains spots i₀ i = (i ≤ mostTrains) × (every i (test tables due trains spots) ≡ true)

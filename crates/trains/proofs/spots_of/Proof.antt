@@ -5,12 +5,12 @@ use borrow.Author.Needs.{needs}
 use Rattle.lists.specs.Words.{at}
 use Rattle.lists.proofs.Numbered.{long-of}
 use Rattle.lists.proofs.Loops.{Made, make-begin, make-more, make-over}
-use Rattle.trains.specs.Spot.{spotIn}
+use Rattle.trains.specs.Spot.{standsIn}
 use Rattle.trains.proofs.spots_of.Statement.{statement}
 use Rattle.trains.proofs.spots_of.Tie as tie
 
 abbrev Inv-loop : tie.InvT-loop
-Inv-loop routebytes lengths limits allocations margin trains new₀ i₀ new i = Made 24 (spotIn routebytes lengths limits margin (at allocations)) trains new₀ i new
+Inv-loop routebytes lengths limits allocations margin trains new₀ i₀ new i = Made 24 (standsIn routebytes lengths limits margin (at allocations)) trains new₀ i new
 
 abbrev μ-loop : tie.MeasureT-loop
 μ-loop routebytes lengths limits allocations margin trains new₀ i₀ new i = 24 - i
@@ -27,14 +27,14 @@ mul-x c = omega arith
 array-copy-out-x : tie.Need-array-copy-out-x Inv-loop μ-loop
 array-copy-out-x c = omega arith
 
-add-spot-of : tie.Need-add-spot-of Inv-loop μ-loop
-add-spot-of c = omega arith
+add-stands-at : tie.Need-add-stands-at Inv-loop μ-loop
+add-stands-at c = omega arith
 
-cast-spot-of : tie.Need-cast-spot-of Inv-loop μ-loop
-cast-spot-of c = omega arith
+cast-stands-at : tie.Need-cast-stands-at Inv-loop μ-loop
+cast-stands-at c = omega arith
 
-spot-of-requires : tie.Need-spot-of-requires Inv-loop μ-loop
-spot-of-requires c κs = search needs
+stands-at-requires : tie.Need-stands-at-requires Inv-loop μ-loop
+stands-at-requires c κs = search needs
 
 mul-new : tie.Need-mul-new Inv-loop μ-loop
 mul-new c = omega arith
@@ -51,7 +51,7 @@ loop-less c = omega arith
 loop-again : tie.Need-loop-again Inv-loop μ-loop
 loop-again c =
     let l = c .before .before in
-    make-more (l .before .loop .inv) _ (l .loop-test .taken) (c .spot-of .ensures)
+    make-more (l .before .loop .inv) _ (l .loop-test .taken) (c .stands-at .ensures)
 
 returns : tie.Need-returns Inv-loop μ-loop
 returns c = make-over (c .before .loop .inv) (c .loop-test .left)
@@ -66,9 +66,9 @@ spots-of-spec =
     loop-holds
     mul-x
     array-copy-out-x
-    add-spot-of
-    cast-spot-of
-    spot-of-requires
+    add-stands-at
+    cast-stands-at
+    stands-at-requires
     mul-new
     array-set-from-new
     add-i
