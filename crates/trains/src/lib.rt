@@ -200,23 +200,6 @@ fn no_spot() -> Spot
     }
 }
 
-fn stands_at<'a>(
-    routebytes: &'a [u8; 960],
-    lengths: &'a [u32; 62],
-    limits: &'a [u16; 62],
-    allocations: &'a [u8; 62],
-    margin: u32,
-    t: u8,
-    x: Train,
-) -> Spot
-    ensures { λ r. ⌜ r ≡ standsIn (now (routebytes .entry)) (now (lengths .entry)) (now (limits .entry)) margin (at (now (allocations .entry))) t x ⌝ }
-{
-    if x.route == 0 {
-        return no_spot();
-    }
-    spot_of(routebytes, lengths, limits, allocations, margin, t, x)
-}
-
 // Where each train stands.
 pub fn spots_of<'a>(
     routebytes: &'a [u8; 960],
@@ -232,15 +215,17 @@ pub fn spots_of<'a>(
     let mut i: usize = 0;
     while i < 24 {
         let x = trains[i];
-        new[i] = stands_at(
-            routebytes,
-            lengths,
-            limits,
-            allocations,
-            margin,
-            (i + 1) as u8,
-            x,
-        );
+        if x.route != 0 {
+            new[i] = spot_of(
+                routebytes,
+                lengths,
+                limits,
+                allocations,
+                margin,
+                (i + 1) as u8,
+                x,
+            );
+        }
         i += 1;
     }
     new
