@@ -183,7 +183,7 @@ impl Area {
         soundness::allocations_sound(tables, allocations, trains)
     }
 
-    pub fn enter(mut self, train: u16, route: u16, speed: u16) -> Outcome
+    pub fn enter(self, train: u16, route: u16, speed: u16) -> Outcome
         ensures { λ r. ⌜ r ≡ enterCall self train route speed ⌝ }
     {
         let ok = self.sound();
@@ -198,12 +198,13 @@ impl Area {
         let first = tables::segment_at(&self.tables.routebytes, r, 1);
         let allocations = enter_leave::taken_all(held, first, t);
         let trains = enter_leave::with_train(before, t, trains::entered_train(r, speed));
-        self.allocations = allocations;
-        self.trains = trains;
-        answered(self, 0)
+        let mut a = self;
+        a.allocations = allocations;
+        a.trains = trains;
+        answered(a, 0)
     }
 
-    pub fn leave(mut self, train: u16) -> Outcome
+    pub fn leave(self, train: u16) -> Outcome
         ensures { λ r. ⌜ r ≡ leaveCall self train ⌝ }
     {
         let ok = self.sound();
@@ -216,12 +217,13 @@ impl Area {
         let before = self.trains;
         let allocations = enter_leave::freed_all(held, t);
         let trains = enter_leave::with_train(before, t, trains::train_off());
-        self.allocations = allocations;
-        self.trains = trains;
-        answered(self, 0)
+        let mut a = self;
+        a.allocations = allocations;
+        a.trains = trains;
+        answered(a, 0)
     }
 
-    pub fn speed(mut self, wishes: &[u16]) -> Outcome
+    pub fn speed(self, wishes: &[u16]) -> Outcome
         ensures { λ r. ⌜ r ≡ speedCall self (now (wishes .entry)) ⌝ }
     {
         let ok = self.sound();
@@ -233,12 +235,13 @@ impl Area {
         let allocations = self.allocations;
         let before = self.trains;
         let trains = cycle::sped_all(tables, allocations, wishes, before);
-        self.trains = trains;
-        self.due = 1;
-        answered(self, 0)
+        let mut a = self;
+        a.trains = trains;
+        a.due = 1;
+        answered(a, 0)
     }
 
-    pub fn request(mut self) -> Outcome
+    pub fn request(self) -> Outcome
         ensures { λ r. ⌜ r ≡ requestCall self ⌝ }
     {
         let ok = self.sound();
@@ -250,12 +253,13 @@ impl Area {
         let allocations = self.allocations;
         let before = self.trains;
         let trains = cycle::requested_all(tables, allocations, before);
-        self.trains = trains;
-        self.due = 2;
-        answered(self, 0)
+        let mut a = self;
+        a.trains = trains;
+        a.due = 2;
+        answered(a, 0)
     }
 
-    pub fn grant(mut self) -> Outcome
+    pub fn grant(self) -> Outcome
         ensures { λ r. ⌜ r ≡ grantCall self ⌝ }
     {
         let ok = self.sound();
@@ -268,13 +272,14 @@ impl Area {
         let before = self.trains;
         let allocations = grant::granted_all(tables, before, held);
         let trains = grant::calmed_all(before);
-        self.allocations = allocations;
-        self.trains = trains;
-        self.due = 3;
-        answered(self, 0)
+        let mut a = self;
+        a.allocations = allocations;
+        a.trains = trains;
+        a.due = 3;
+        answered(a, 0)
     }
 
-    pub fn position(mut self) -> Outcome
+    pub fn position(self) -> Outcome
         ensures { λ r. ⌜ r ≡ positionCall self ⌝ }
     {
         let ok = self.sound();
@@ -287,10 +292,11 @@ impl Area {
         let before = self.trains;
         let allocations = cycle::released_all(tables, before, held);
         let trains = cycle::moved_all(tables, before);
-        self.allocations = allocations;
-        self.trains = trains;
-        self.due = 0;
-        answered(self, 0)
+        let mut a = self;
+        a.allocations = allocations;
+        a.trains = trains;
+        a.due = 0;
+        answered(a, 0)
     }
 
     pub fn report(self) -> Report

@@ -70,19 +70,19 @@ pub fn sped_all(
 ) -> [Train; 24]
     ensures { λ r. ⌜ r ≡ each (sped tables allocations (now (wishes .entry))) trains ⌝ }
 {
-    let spots = trains::spots_of(
-        &tables.routebytes,
-        &tables.lengths,
-        &tables.limits,
-        &allocations,
-        tables.margin,
-        trains,
-    );
     let mut new = trains;
     let mut i: usize = 0;
     while i < 24 {
         let x = trains[i];
-        let spot = spots[i];
+        let spot = trains::spot_of(
+            &tables.routebytes,
+            &tables.lengths,
+            &tables.limits,
+            &allocations,
+            tables.margin,
+            (i + 1) as u8,
+            x,
+        );
         new[i] = sped_train(tables.braking, spot, entry_u16(wishes, i + 1), x);
         i += 1;
     }
@@ -102,19 +102,19 @@ fn requested_train(spot: Spot, train: Train) -> Train
 pub fn requested_all(tables: Tables, allocations: [u8; 62], trains: [Train; 24]) -> [Train; 24]
     ensures { λ r. ⌜ r ≡ each (requested tables allocations) trains ⌝ }
 {
-    let spots = trains::spots_of(
-        &tables.routebytes,
-        &tables.lengths,
-        &tables.limits,
-        &allocations,
-        tables.margin,
-        trains,
-    );
     let mut new = trains;
     let mut i: usize = 0;
     while i < 24 {
         let x = trains[i];
-        let spot = spots[i];
+        let spot = trains::spot_of(
+            &tables.routebytes,
+            &tables.lengths,
+            &tables.limits,
+            &allocations,
+            tables.margin,
+            (i + 1) as u8,
+            x,
+        );
         new[i] = requested_train(spot, x);
         i += 1;
     }

@@ -87,18 +87,18 @@ pub fn trains_sound(tables: Tables, allocations: [u8; 62], due: u8, trains: [Tra
     requires { ⌜ Consistent tables ⌝ }
     ensures { λ r. ⌜ r ≡ every mostTrains (λ t. trainSound tables allocations due t (trainAt trains t)) ⌝ }
 {
-    let spots = trains::spots_of(
-        &tables.routebytes,
-        &tables.lengths,
-        &tables.limits,
-        &allocations,
-        tables.margin,
-        trains,
-    );
     let mut i: usize = 0;
     while i < 24 {
         let x = trains[i];
-        let spot = spots[i];
+        let spot = trains::spot_of(
+            &tables.routebytes,
+            &tables.lengths,
+            &tables.limits,
+            &allocations,
+            tables.margin,
+            (i + 1) as u8,
+            x,
+        );
         if !train_sound(tables.routes, tables.braking, tables.margin, due, spot, x) {
             return false;
         }
