@@ -8,9 +8,10 @@ ghost use Rattle.lists.specs.Words.{at};
 ghost use Rattle.lists.specs.Tests.{_⇒_, firstOf};
 ghost use Rattle.tables.specs.Tables.{countOf};
 ghost use Rattle.trains.specs.Train.{ownIn};
+ghost use Rattle.trains.specs.EnterLeave.{firstSegment};
 ghost use Rattle.answers.specs.Answers.{answerOf};
 ghost use Rattle.area.specs.Sound.{sound};
-ghost use Rattle.area.specs.Calls.{enterTests, routeTests, leaveTests, speedTests, stepTests, enterCall, leaveCall, speedCall, requestCall, grantCall, positionCall, reported};
+ghost use Rattle.area.specs.Calls.{enterTests, leaveTests, enterCall, leaveCall, speedCall, requestCall, grantCall, positionCall, reported};
 use answers::Answer;
 use lists::entry_u8;
 use lists::entry_u16;
@@ -46,6 +47,13 @@ fn answered(area: Area, number: u8) -> Outcome
         answer: answers::answer_of(number, 0),
         area,
     }
+}
+
+// The number of the first test of enter that holds, and the segment that is entered where none does: read once, since a lend of
+// the tables copies them.
+struct Entry {
+    number: u8,
+    first: u8,
 }
 
 // ---- the number of the first test of a call that holds, 0 where none does; `ok` says whether the record is sound, which the call has tested
@@ -98,38 +106,41 @@ fn first_segment_refusal<'a>(
     0
 }
 
-fn route_refusal(area: Area, route: u16, speed: u16) -> u8
-    ensures { λ r. ⌜ r ≡ firstOf (routeTests area route speed) .number ⌝ }
-{
-    if (route == 0) | ((area.tables.routes as u16) < route) {
-        return 16;
-    }
-    let first = tables::segment_at(&area.tables.routebytes, route as u8, 1);
-    first_segment_refusal(
-        &area.tables.flags,
-        &area.allocations,
-        &area.tables.limits,
-        first,
-        speed,
-    )
-}
-
-fn enter_refusal(ok: bool, area: Area, train: u16, route: u16, speed: u16) -> u8
+fn enter_refusal(ok: bool, area: Area, train: u16, route: u16, speed: u16) -> Entry
     requires { ⌜ ok ≡ sound area ⌝ }
-    ensures { λ r. ⌜ r ≡ firstOf (enterTests area train route speed) .number ⌝ }
+    ensures { λ r. ⌜ (r .number ≡ firstOf (enterTests area train route speed) .number) × (r .number ≡ 0 → r .first ≡ firstSegment (area .tables) route) ⌝ }
 {
     if !ok {
-        return 11;
+        return Entry {
+            number: 11,
+            first: 0,
+        };
     }
     if (train == 0) | (24 < train) {
-        return 13;
+        return Entry {
+            number: 13,
+            first: 0,
+        };
     }
     let trains = area.trains;
     let x = trains::train_at(trains, train as u8);
     if 0 < x.route {
-        return 14;
+        return Entry {
+            number: 14,
+            first: 0,
+        };
     }
-    route_refusal(area, route, speed)
+    let tables = area.tables;
+    if (route == 0) | ((tables.routes as u16) < route) {
+        return Entry {
+            number: 16,
+            first: 0,
+        };
+    }
+    let first = tables::segment_at(&tables.routebytes, route as u8, 1);
+    let held = area.allocations;
+    let number = first_segment_refusal(&tables.flags, &held, &tables.limits, first, speed);
+    Entry { number, first }
 }
 
 // On its route's last segment, which has the exit flag.
@@ -156,7 +167,8 @@ fn leave_refusal(ok: bool, area: Area, train: u16) -> u8
     if x.route == 0 {
         return 15;
     }
-    if !at_exit(&area.tables.routebytes, &area.tables.flags, x) {
+    let tables = area.tables;
+    if !at_exit(&tables.routebytes, &tables.flags, x) {
         return 20;
     }
     0
@@ -187,21 +199,27 @@ impl Area {
         ensures { λ r. ⌜ r ≡ enterCall self train route speed ⌝ }
     {
         let ok = self.sound();
-        let number = enter_refusal(ok, self, train, route, speed);
+        let entry = enter_refusal(ok, self, train, route, speed);
+        let number = entry.number;
         if number != 0 {
             return answered(self, number);
         }
         let t = train as u8;
         let r = route as u8;
+        let tables = self.tables;
         let held = self.allocations;
         let before = self.trains;
-        let first = tables::segment_at(&self.tables.routebytes, r, 1);
-        let allocations = enter_leave::taken_all(held, first, t);
+        let allocations = enter_leave::taken_all(held, entry.first, t);
         let trains = enter_leave::with_train(before, t, trains::entered_train(r, speed));
-        let mut a = self;
-        a.allocations = allocations;
-        a.trains = trains;
-        answered(a, 0)
+        answered(
+            Area {
+                tables,
+                allocations,
+                trains,
+                due: self.due,
+            },
+            0,
+        )
     }
 
     pub fn leave(self, train: u16) -> Outcome
@@ -213,14 +231,20 @@ impl Area {
             return answered(self, number);
         }
         let t = train as u8;
+        let tables = self.tables;
         let held = self.allocations;
         let before = self.trains;
         let allocations = enter_leave::freed_all(held, t);
         let trains = enter_leave::with_train(before, t, trains::train_off());
-        let mut a = self;
-        a.allocations = allocations;
-        a.trains = trains;
-        answered(a, 0)
+        answered(
+            Area {
+                tables,
+                allocations,
+                trains,
+                due: self.due,
+            },
+            0,
+        )
     }
 
     pub fn speed(self, wishes: &[u16]) -> Outcome
@@ -235,10 +259,15 @@ impl Area {
         let allocations = self.allocations;
         let before = self.trains;
         let trains = cycle::sped_all(tables, allocations, wishes, before);
-        let mut a = self;
-        a.trains = trains;
-        a.due = 1;
-        answered(a, 0)
+        answered(
+            Area {
+                tables,
+                allocations,
+                trains,
+                due: 1,
+            },
+            0,
+        )
     }
 
     pub fn request(self) -> Outcome
@@ -253,10 +282,15 @@ impl Area {
         let allocations = self.allocations;
         let before = self.trains;
         let trains = cycle::requested_all(tables, allocations, before);
-        let mut a = self;
-        a.trains = trains;
-        a.due = 2;
-        answered(a, 0)
+        answered(
+            Area {
+                tables,
+                allocations,
+                trains,
+                due: 2,
+            },
+            0,
+        )
     }
 
     pub fn grant(self) -> Outcome
@@ -272,11 +306,15 @@ impl Area {
         let before = self.trains;
         let allocations = grant::granted_all(tables, before, held);
         let trains = grant::calmed_all(before);
-        let mut a = self;
-        a.allocations = allocations;
-        a.trains = trains;
-        a.due = 3;
-        answered(a, 0)
+        answered(
+            Area {
+                tables,
+                allocations,
+                trains,
+                due: 3,
+            },
+            0,
+        )
     }
 
     pub fn position(self) -> Outcome
@@ -292,11 +330,15 @@ impl Area {
         let before = self.trains;
         let allocations = cycle::released_all(tables, before, held);
         let trains = cycle::moved_all(tables, before);
-        let mut a = self;
-        a.allocations = allocations;
-        a.trains = trains;
-        a.due = 0;
-        answered(a, 0)
+        answered(
+            Area {
+                tables,
+                allocations,
+                trains,
+                due: 0,
+            },
+            0,
+        )
     }
 
     pub fn report(self) -> Report

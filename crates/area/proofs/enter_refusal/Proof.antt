@@ -1,35 +1,59 @@
--- Each test that the code has passed is false in the list, and the one that it answers with is true.
+-- Each test that the code has passed is false in the list, and the one that it answers with is true; the tests of the first
+-- segment decide where all before them are passed.
 use mathlib.Core.Path.{_≡_, sym, _∙_}
 use mathlib.Core.Bool.{true, false}
 use native.Mathlib.Omega.{arith}
+use mir.Syntax.{w8}
+use mir.Val.{Fits}
 use borrow.Author.Tests.{lt-ltb, le-ltb}
 use borrow.Author.Needs.{needs}
 use Rattle.lists.proofs.Cases.{test-fails, test-holds}
 use Rattle.lists.proofs.Refusals.{outside, inside}
-use Rattle.trains.specs.Train.{mostTrains}
+use Rattle.trains.specs.Train.{mostTrains, trainAt, isOn}
 use Rattle.area.specs.Sound.{sound}
-use Rattle.area.specs.Calls.{noTrain}
+use Rattle.area.specs.Calls.{noTrain, noRoute}
 use Rattle.area.proofs.enter_refusal.Statement.{statement}
 use Rattle.area.proofs.enter_refusal.Tie as tie
+
+routes-fit : (s : tie.Start) → Fits w8 (s .args .area .tables .routes)
+routes-fit s = search needs
 
 is-sound : (c : tie.Else1) → sound (c .before .args .area) ≡ true
 is-sound c = test-holds (c .before .pre) (c .if1 .left)
 
-numbered : (c : tie.Else2) → noTrain (c .before .before .args .train) ≡ false
-numbered c = sym (outside mostTrains (c .before .before .args .train)) ∙ c .if2 .left
+abbrev start : tie.Else2 → tie.Start
+start c = c .before .before
 
--- where the train is read
-abbrev at-train : tie.After-train-at → tie.Else2
-at-train c = c .before .before
+numbered : (c : tie.Else2) → noTrain (start c .args .train) ≡ false
+numbered c = sym (outside mostTrains (start c .args .train)) ∙ c .if2 .left
+
+abbrev read : tie.After-train-at → tie.Else2
+read c = c .before .before
+
+abbrev known : tie.Else3 → tie.Else2
+known c = read (c .before .before)
+
+is-off : (c : tie.Else3) → let a = start (known c) .args in isOn (trainAt (a .area .trains) (a .train)) ≡ false
+is-off c = rw (c .before .before .train-at .ensures) at (le-ltb _ _ (c .if3 .left))
+
+abbrev routing : tie.Else4 → tie.Else3
+routing c = c .before .before
+
+routed : (c : tie.Else4) → let a = start (known (routing c)) .args in noRoute (a .area .tables) (a .route) ≡ false
+routed c = let a = start (known (routing c)) .args in sym (outside (a .area .tables .routes) (a .route)) ∙ c .if4 .left
+
+abbrev first : tie.After-first-segment-refusal → tie.After-segment-at
+first c = c .before .before .before .before .before .before
 
 returns : tie.Need-returns
-returns c = rw (test-fails (c .before .pre) (c .if1 .taken))
+returns c = (rw (test-fails (c .before .pre) (c .if1 .taken)), λ z. absurd (omega arith))
 
 returns-2 : tie.Need-returns-2
-returns-2 c = rw (is-sound (c .before), sym (outside mostTrains (c .before .before .args .train)) ∙ c .if2 .taken)
+returns-2 c =
+    (rw (is-sound (c .before), sym (outside mostTrains (c .before .before .args .train)) ∙ c .if2 .taken), λ z. absurd (omega arith))
 
 cast-train-at : tie.Need-cast-train-at
-cast-train-at c = let h = inside mostTrains (c .before .before .before .args .train) (c .before .if2 .left) in omega arith
+cast-train-at c = let h = inside mostTrains (start (c .before) .args .train) (c .before .if2 .left) in omega arith
 
 train-at-requires : tie.Need-train-at-requires
 train-at-requires c κs = search needs
@@ -37,19 +61,50 @@ train-at-requires c κs = search needs
 returns-3 : tie.Need-returns-3
 returns-3 c =
     let x = c .before .before in
-    let e = at-train x in
-    rw (is-sound (e .before), numbered e, rw (x .train-at .ensures) at (lt-ltb _ _ (c .if3 .taken)))
+    (rw (is-sound (read x .before), numbered (read x), rw (x .train-at .ensures) at (lt-ltb _ _ (c .if3 .taken))), λ z. absurd (omega arith))
 
-route-refusal-requires : tie.Need-route-refusal-requires
-route-refusal-requires c κs = search needs
+cast-if4 : tie.Need-cast-if4
+cast-if4 c = search needs
 
 returns-4 : tie.Need-returns-4
 returns-4 c =
-    let x = c .before .before .before in
-    let e = at-train x in
-    rw (is-sound (e .before), numbered e, rw (x .train-at .ensures) at (le-ltb _ _ (c .before .if3 .left))) (c .route-refusal .ensures)
+    let d = c .before .before in
+    let a = start (known d) .args in
+    let none = sym (outside (a .area .tables .routes) (a .route)) ∙ c .if4 .taken in
+    (rw (is-sound (known d .before), numbered (known d), is-off d, none), λ z. absurd (omega arith))
+
+cast-segment-at : tie.Need-cast-segment-at
+cast-segment-at c =
+    let d = c .before .before in
+    let s = start (known (routing d)) in
+    let h = inside (s .args .area .tables .routes) (s .args .route) (d .if4 .left) in
+    omega (arith, routes-fit s)
+
+segment-at-requires : tie.Need-segment-at-requires
+segment-at-requires c κs = search needs
+
+first-segment-refusal-requires : tie.Need-first-segment-refusal-requires
+first-segment-refusal-requires c κs = search needs
+
+returns-5 : tie.Need-returns-5
+returns-5 c =
+    let d = first c .before .before .before in
+    let e = known (routing d) in
+    let decided = rw (first c .segment-at .ensures) at (c .first-segment-refusal .ensures) in
+    (rw (is-sound (e .before), numbered e, is-off (routing d), routed d) decided, λ z. first c .segment-at .ensures)
 
 pub enter-refusal-spec : {M : Type 1} → statement M
 enter-refusal-spec =
     tie.close
-    (tie.spec returns returns-2 cast-train-at train-at-requires returns-3 route-refusal-requires returns-4)
+    (tie.spec
+    returns
+    returns-2
+    cast-train-at
+    train-at-requires
+    returns-3
+    cast-if4
+    returns-4
+    cast-segment-at
+    segment-at-requires
+    first-segment-refusal-requires
+    returns-5)

@@ -16,7 +16,7 @@ use Rattle.area.specs.Calls.{noTrain}
 use Rattle.area.proofs.leave_refusal.Statement.{statement}
 use Rattle.area.proofs.leave_refusal.Tie as tie
 
-is-sound : (c : tie.Else1) → sound (c .before .args .t2) ≡ true
+is-sound : (c : tie.Else1) → sound (c .before .args .area) ≡ true
 is-sound c = test-holds (c .before .pre) (c .if1 .left)
 
 abbrev start : tie.Else2 → tie.Start
@@ -30,16 +30,16 @@ abbrev known : tie.After-train-at → tie.Else2
 known c = c .before .before
 
 abbrev train : tie.Else2 → Train
-train c = trainAt (start c .args .t2 .trains) (start c .args .train)
+train c = trainAt (start c .args .area .trains) (start c .args .train)
 
 is-on : (c : tie.Else3) → isOn (train (known (c .before .before))) ≡ true
 is-on c = let on : 0 < c .before .before .train-at .result .route = omega (arith, c .if3 .left) in rw (c .before .before .train-at .ensures) at (lt-ltb _ _ on)
 
 abbrev tried : tie.After-at-exit → tie.Else3
-tried c = c .before .before .before .before
+tried c = c .before .before .before .before .before
 
 exit-found :
-    (c : tie.After-at-exit) → let e = known (tried c .before .before) in let T = start e .args .t2 .tables in
+    (c : tie.After-at-exit) → let e = known (tried c .before .before) in let T = start e .args .area .tables in
     c .at-exit .result ≡ (isLast T (train e) && isExit T (ownOf T (train e)))
 exit-found c = rw (tried c .before .before .train-at .ensures) at (c .at-exit .ensures)
 

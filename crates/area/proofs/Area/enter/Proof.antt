@@ -18,17 +18,17 @@ use Rattle.area.proofs.Area.enter.Statement.{statement}
 use Rattle.area.proofs.Area.enter.Tie as tie
 
 abbrev tests : tie.Start → List Test
-tests s = let a = s .args in enterTests (a .t1) (a .train) (a .route) (a .speed)
+tests s = let a = s .args in enterTests (a .self) (a .train) (a .route) (a .speed)
 
 abbrev new : tie.Start → Area
-new s = let a = s .args in afterEnter (a .t1) (a .train) (a .route) (a .speed)
+new s = let a = s .args in afterEnter (a .self) (a .train) (a .route) (a .speed)
 
 test-passed : (c : tie.Else1) (n : ℕ) → conditionOf n (tests (c .before .before .before)) ≡ false
-test-passed c n = passed-by (tests (c .before .before .before)) (c .before .enter-refusal .ensures) refl (c .if1 .left) n
+test-passed c n = passed-by (tests (c .before .before .before)) (c .before .enter-refusal .ensures .0) refl (c .if1 .left) n
 
 -- every test is passed before the record is read
-abbrev passed : tie.After-segment-at → tie.Else1
-passed c = c .before .before .before .before .before
+abbrev passed : tie.After-before2 → tie.Else1
+passed c = c .before .before .before
 
 sound-requires : tie.Need-sound-requires
 sound-requires c κs = search needs
@@ -44,7 +44,7 @@ unfolding enterCall
 returns c =
     let n = c .before .before in
     let s = n .before .before in
-    c .answered .ensures ∙ refused-by (tests s) (n .enter-refusal .ensures) (new s) (s .args .t1) refl (c .before .if1 .taken)
+    c .answered .ensures ∙ refused-by (tests s) (n .enter-refusal .ensures .0) (new s) (s .args .self) refl (c .before .if1 .taken)
 
 cast-t : tie.Need-cast-t
 cast-t c = let h = within mostTrains (c .before .before .before .args .train) (test-passed c 13) in omega arith
@@ -52,12 +52,9 @@ cast-t c = let h = within mostTrains (c .before .before .before .args .train) (t
 cast-r : tie.Need-cast-r
 cast-r c =
     let a = c .before .before .before .args in
-    let fits : Fits w8 (a .t1 .tables .routes) = search needs in
-    let h = within (a .t1 .tables .routes) (a .route) (test-passed c 16) in
+    let fits : Fits w8 (a .self .tables .routes) = search needs in
+    let h = within (a .self .tables .routes) (a .route) (test-passed c 16) in
     omega arith
-
-segment-at-requires : tie.Need-segment-at-requires
-segment-at-requires c κs = search needs
 
 taken-all-requires : tie.Need-taken-all-requires
 taken-all-requires c κs = search needs
@@ -76,12 +73,13 @@ unfolding enterCall afterEnter
 returns-2 c =
     let entered = c .before .before in
     let taken = entered .before in
-    let first = taken .before in
-    let n = passed first .before in
+    let p = passed (taken .before) in
+    let n = p .before in
     let s = n .before .before in
+    let first = n .enter-refusal .ensures .1 (p .if1 .left) in
     c .answered2 .ensures
-    ∙ finished-by (tests s) (n .enter-refusal .ensures) (new s) (s .args .t1) refl (passed first .if1 .left)
-    (simp (c .before .with-train .ensures, entered .entered-train .ensures, taken .taken-all .ensures, first .segment-at .ensures))
+    ∙ finished-by (tests s) (n .enter-refusal .ensures .0) (new s) (s .args .self) refl (p .if1 .left)
+    (simp (c .before .with-train .ensures, entered .entered-train .ensures, taken .taken-all .ensures, first))
 
 pub enter-spec : {M : Type 1} → statement M
 enter-spec =
@@ -93,7 +91,6 @@ enter-spec =
     returns
     cast-t
     cast-r
-    segment-at-requires
     taken-all-requires
     entered-train-requires
     with-train-requires

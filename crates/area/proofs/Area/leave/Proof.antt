@@ -12,7 +12,7 @@ use Rattle.area.proofs.Area.leave.Tie as tie
 
 -- every test is passed before the record is read
 abbrev passed : tie.After-before2 → tie.Else1
-passed c = c .before .before
+passed c = c .before .before .before
 
 sound-requires : tie.Need-sound-requires
 sound-requires c κs = search needs

@@ -1,3 +1,4 @@
+-- An unsound record gives 11 and zeros; of a sound one the numbers are those of the summary.
 use borrow.Author.Needs.{needs}
 use Rattle.lists.proofs.Cases.{test-fails, test-holds}
 use Rattle.area.specs.Calls.{reported}

@@ -1,3 +1,4 @@
+-- The number of the first test that holds decides the outcome; where none does, the trains are those that the step makes.
 use mathlib.Core.Path.{_≡_, refl, _∙_}
 use borrow.Author.Needs.{needs}
 use Rattle.lists.specs.Tests.{firstOf}

@@ -1,3 +1,4 @@
+-- Each part of the record is tested in turn, and the first that fails decides; tables that meet the rules are consistent, as the test of the trains asks.
 use mathlib.Core.Path.{_≡_}
 use mathlib.Core.Bool.{true}
 use borrow.Author.Tests.{lt-leb, le-leb}
