@@ -1,16 +1,14 @@
 -- A call's outcome by the number of the first of its tests that holds: a refusal where it is not 0, and the finished step where it is.
 use Prim.Native.Nat.{ℕ}
 use mathlib.Core.Path.{_≡_, sym, ap, _∙_}
-use mathlib.Core.Bool.{Bool, true, false, not}
+use mathlib.Core.Bool.{true, false}
 use mathlib.Core.List.{List}
-use lib.Dec.{eqb}
 use borrow.Author.Tests.{not-true, eq-eqb}
 use Rattle.lists.specs.Tests.{Test, firstOf, conditionOf}
 use Rattle.lists.proofs.Cases.{by-test}
 use Rattle.lists.proofs.Refusals.{passed, absent, first-none, first-number, placeless, first-placeless}
 use Rattle.answers.specs.Answers.{answerOf}
 use Rattle.area.specs.declared.Area.{Area}
-use Rattle.area.specs.declared.Outcome.{Outcome}
 use Rattle.area.specs.Calls.{outcome}
 
 module _ (tests : List Test) {number : ℕ} (first : number ≡ firstOf tests .number) where

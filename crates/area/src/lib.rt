@@ -49,13 +49,6 @@ fn answered(area: Area, number: u8) -> Outcome
     }
 }
 
-// The number of the first test of enter that holds, and the segment that is entered where none does: read once, since a lend of
-// the tables copies them.
-struct Entry {
-    number: u8,
-    first: u8,
-}
-
 // ---- the number of the first test of a call that holds, 0 where none does; `ok` says whether the record is sound, which the call has tested
 fn step_refusal(ok: bool, due: u8, step: u8) -> u8
     ensures { λ r. ⌜ r ≡ firstOf (not ok ⇒ 11 ∷ not (eqb due step) ⇒ 12 ∷ []) .number ⌝ }
@@ -104,6 +97,12 @@ fn first_segment_refusal<'a>(
         return 19;
     }
     0
+}
+
+// The refusal's number, and the segment that is entered where it is 0: handed on, since to lend the tables again is to copy them.
+struct Entry {
+    number: u8,
+    first: u8,
 }
 
 fn enter_refusal(ok: bool, area: Area, train: u16, route: u16, speed: u16) -> Entry

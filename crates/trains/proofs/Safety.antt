@@ -16,12 +16,12 @@ use Rattle.tables.specs.Tables.{countOf, segmentAt}
 use Rattle.tables.specs.Facts.{IsSegment, Follows, Consistent}
 use Rattle.trains.specs.declared.Train.{Train}
 use Rattle.trains.specs.Due.{speedDue, requestDue, grantDue, positionDue}
-use Rattle.trains.specs.Train.{entered, withSpeed, withAsking, movedTo, ownIn, ownOf, nextIn, nextOf, ownLength, ownLimit, nextLimit, near, holdsNext, occupiedIn, occupied, aheadIn, ahead}
+use Rattle.trains.specs.Train.{entered, withSpeed, withAsking, movedTo, ownIn, ownOf, nextIn, nextOf, ownLength, ownLimit, nextLimit, near, holdsNext, occupied, ahead}
 use Rattle.trains.specs.Spot.{spotOf}
 use Rattle.trains.specs.Cycle.{low, upperEnd, newSpeed, wants, movesIn, movesOn, moved, movedIn, released}
 use Rattle.trains.specs.Sound.{toRun}
 use Rattle.trains.specs.Way.{startAfter}
-use Rattle.trains.proofs.Segments.{own-occupied, occupied-own, not-occupied, ahead-next}
+use Rattle.trains.proofs.Segments.{own-occupied, occupied-own, not-occupied, ahead-next, occupied-same, ahead-same}
 
 -- place p of route r is one of the tables
 pub record OnRoute (T : Tables) (r p : ℕ) : Type 0 where
@@ -49,6 +49,17 @@ run-now b v = refl
 run-later : (b due v : ℕ) → speedDue < due → toRun b due v ≡ S b v
 unfolding toRun
 run-later b due v h = rw (ne-eqb due speedDue (λ e. omega arith))
+
+-- the two fields that speak of its segments, of a train at the same place of the same route
+module _ (T : Tables) (held : ℕ → ℕ) (t : ℕ) (x y : Train) (got : ℕ → Bool) (route : y .route ≡ x .route) (place : y .place ≡ x .place) where
+  holds-there : ((s : ℕ) → occupied T x s ≡ true → held s ≡ t) → (s : ℕ) → occupied T y s ≡ true → held s ≡ t
+  holds-there h s e = h s (sym (occupied-same T x y route place s) ∙ e)
+
+  only-there :
+      ((s : ℕ) → held s ≡ t → (occupied T x s ≡ true) ⊎ ((ahead T x s ≡ true) × (got s ≡ true)))
+      → (s : ℕ) → held s ≡ t → (occupied T y s ≡ true) ⊎ ((ahead T y s ≡ true) × (got s ≡ true))
+  only-there h s e =
+      cases (h s e) (λ q. inl (occupied-same T x y route place s ∙ q)) (λ q. inr (ahead-same T x y route place s ∙ q .0, q .1))
 
 -- the next segment starts where this one ends
 pub start-step : (T : Tables) (r p : ℕ) → 1 ≤ p → startAfter T r p ≡ startAfter T r (p - 1) + at (T .lengths) (segmentAt (T .routebytes) r p)
@@ -156,14 +167,14 @@ module _ (T : Tables) (K : Consistent T) where
         (λ n. absurd (omega (arith, far-stops n speedNow new-slow, S-above (T .braking) (K .rate) speedNow)))
 
     pub speed-ok : TrainOk T requestDue held t (withSpeed x speedNow) way got
-    unfolding ownIn nextIn occupiedIn aheadIn
+    unfolding ownIn nextIn
     speed-ok =
         record {
           onRoute = ok .onRoute;
           inside = ok .inside;
           slow = new-slow;
-          holds = ok .holds;
-          only = ok .only;
+          holds = holds-there T held t x (withSpeed x speedNow) got refl refl (ok .holds);
+          only = only-there T held t x (withSpeed x speedNow) got refl refl (ok .only);
           stops = λ o. rw (run-later (T .braking) requestDue speedNow (omega arith)) (new-stops o);
           nextSlow = λ o d h. new-next o h;
           walked = ok .walked;
@@ -215,14 +226,14 @@ module _ (T : Tables) (K : Consistent T) where
   pub request-ok :
       (held : ℕ → ℕ) (t : ℕ) (x : Train) (way : ℕ) (got : ℕ → Bool) → TrainOk T requestDue held t x way got
       → TrainOk T grantDue held t (withAsking x (wants (spotOf T held t x))) way got
-  unfolding ownIn nextIn occupiedIn aheadIn
+  unfolding ownIn nextIn
   request-ok held t x way got ok =
       record {
         onRoute = ok .onRoute;
         inside = ok .inside;
         slow = ok .slow;
-        holds = ok .holds;
-        only = ok .only;
+        holds = holds-there T held t x (withAsking x (wants (spotOf T held t x))) got refl refl (ok .holds);
+        only = only-there T held t x (withAsking x (wants (spotOf T held t x))) got refl refl (ok .only);
         stops =
             λ o. rw (run-later (T .braking) grantDue (x .speed) (omega arith)) (rw (run-later (T .braking) requestDue (x .speed) (omega arith)) at (ok .stops o));
         nextSlow = λ o d h. ok .nextSlow o (omega arith) h;
@@ -238,7 +249,7 @@ module _ (T : Tables) (K : Consistent T) where
       → ((s : ℕ) → held′ s ≡ t → (held s ≡ t) ⊎ ((ahead T x s ≡ true) × (got′ s ≡ true)))
       → ((s : ℕ) → got s ≡ true → got′ s ≡ true)
       → TrainOk T positionDue held′ t (withAsking x false) way got′
-  unfolding ownIn nextIn occupiedIn aheadIn
+  unfolding ownIn nextIn
   grant-ok {held} {held′} {t} {x} {way} {got} {got′} ok to from g =
       let later : holdsNext T held t x ≡ false → x .position + S (T .braking) (x .speed) < ownLength T x =
       λ e. rw (run-later (T .braking) grantDue (x .speed) (omega arith)) at (ok .stops e) in
@@ -246,8 +257,10 @@ module _ (T : Tables) (K : Consistent T) where
         onRoute = ok .onRoute;
         inside = ok .inside;
         slow = ok .slow;
-        holds = λ s e. to s (ok .holds s e);
-        only = λ s e. cases (from s e) (λ q. cases (ok .only s q) (λ r. inl r) (λ r. inr (r .0, g s (r .1)))) (λ q. inr q);
+        holds = holds-there T held′ t x (withAsking x false) got′ refl refl (λ s e. to s (ok .holds s e));
+        only =
+            only-there T held′ t x (withAsking x false) got′ refl refl
+            (λ s e. cases (from s e) (λ q. cases (ok .only s q) (λ r. inl r) (λ r. inr (r .0, g s (r .1)))) (λ q. inr q));
         stops = λ o. rw (run-later (T .braking) positionDue (x .speed) (omega arith)) (later (holds-not held held′ t x to o));
         nextSlow =
             λ o d h.
@@ -263,14 +276,14 @@ module _ (T : Tables) (K : Consistent T) where
     later-stops o = rw (run-later (T .braking) positionDue (x .speed) (omega arith)) at (ok .stops o)
 
     pub further-ok : x .position + x .speed < ownLength T x → TrainOk T speedDue held t (movedTo x (x .place) (x .position + x .speed)) (way + x .speed) got
-    unfolding ownIn nextIn occupiedIn aheadIn
+    unfolding ownIn nextIn
     further-ok short =
         record {
           onRoute = ok .onRoute;
           inside = short;
           slow = ok .slow;
-          holds = ok .holds;
-          only = ok .only;
+          holds = holds-there T held t x (movedTo x (x .place) (x .position + x .speed)) got refl refl (ok .holds);
+          only = only-there T held t x (movedTo x (x .place) (x .position + x .speed)) got refl refl (ok .only);
           stops = λ o. rw (run-now (T .braking) (x .speed)) (omega (arith, later-stops o, S-B (T .braking) (K .rate) (x .speed)));
           nextSlow = λ o d h. absurd (omega arith);
           walked = omega (arith, ok .walked);

@@ -8,7 +8,7 @@ use borrow.Author.Tests.{eqb-true, eq-eqb, ne-eqb, lt-ltb}
 use Rattle.lists.proofs.Cases.{facts}
 use Rattle.tables.specs.declared.Tables.{Tables}
 use Rattle.trains.specs.declared.Train.{Train}
-use Rattle.trains.specs.Train.{ownOf, nextOf, occupiedIn, occupied, aheadIn, ahead, wantedIn, wanted}
+use Rattle.trains.specs.Train.{ownIn, ownOf, nextIn, nextOf, occupiedIn, occupied, aheadIn, ahead, wantedIn, wanted}
 
 module _ (T : Tables) (x : Train) where
   pub occupied-test : (s : ℕ) → occupied T x s ≡ eqb (ownOf T x) s
@@ -39,3 +39,13 @@ module _ (T : Tables) (x : Train) where
   pub wanted-ahead : {s : ℕ} → 1 ≤ s → wanted T x ≡ s → ahead T x s ≡ true
   unfolding wantedIn
   wanted-ahead some e = next-ahead some e
+
+-- what is under a train and ahead of it is the same for another at the same place of the same route
+module _ (T : Tables) (x y : Train) (route : y .route ≡ x .route) (place : y .place ≡ x .place) where
+  pub occupied-same : (s : ℕ) → occupied T y s ≡ occupied T x s
+  unfolding occupiedIn ownIn
+  occupied-same s = rw (route, place)
+
+  pub ahead-same : (s : ℕ) → ahead T y s ≡ ahead T x s
+  unfolding aheadIn nextIn
+  ahead-same s = rw (route, place)

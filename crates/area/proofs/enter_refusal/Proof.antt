@@ -55,16 +55,10 @@ returns-2 c =
 cast-train-at : tie.Need-cast-train-at
 cast-train-at c = let h = inside mostTrains (start (c .before) .args .train) (c .before .if2 .left) in omega arith
 
-train-at-requires : tie.Need-train-at-requires
-train-at-requires c κs = search needs
-
 returns-3 : tie.Need-returns-3
 returns-3 c =
     let x = c .before .before in
     (rw (is-sound (read x .before), numbered (read x), rw (x .train-at .ensures) at (lt-ltb _ _ (c .if3 .taken))), λ z. absurd (omega arith))
-
-cast-if4 : tie.Need-cast-if4
-cast-if4 c = search needs
 
 returns-4 : tie.Need-returns-4
 returns-4 c =
@@ -80,12 +74,6 @@ cast-segment-at c =
     let h = inside (s .args .area .tables .routes) (s .args .route) (d .if4 .left) in
     omega (arith, routes-fit s)
 
-segment-at-requires : tie.Need-segment-at-requires
-segment-at-requires c κs = search needs
-
-first-segment-refusal-requires : tie.Need-first-segment-refusal-requires
-first-segment-refusal-requires c κs = search needs
-
 returns-5 : tie.Need-returns-5
 returns-5 c =
     let d = first c .before .before .before in
@@ -100,11 +88,11 @@ enter-refusal-spec =
     returns
     returns-2
     cast-train-at
-    train-at-requires
+    (λ c κs. search needs)
     returns-3
-    cast-if4
+    (λ c. search needs)
     returns-4
     cast-segment-at
-    segment-at-requires
-    first-segment-refusal-requires
+    (λ c κs. search needs)
+    (λ c κs. search needs)
     returns-5)

@@ -19,20 +19,11 @@ passed c = c .before .before .before
 free : (c : tie.Else2) → let a = passed c .before .before .before .args in ltb 0 (at (now (a .allocations)) (a .first)) ≡ false
 free c = rw (c .before .entry-u82 .ensures) at (le-ltb _ _ (c .if2 .left))
 
-entry-u8-requires : tie.Need-entry-u8-requires
-entry-u8-requires c κs = search needs
-
 returns : tie.Need-returns
 returns c = rw (rw (c .before .entry-u8 .ensures) at (ne-eqb _ _ (c .if1 .taken)))
 
-entry-u8-requires-2 : tie.Need-entry-u8-requires-2
-entry-u8-requires-2 c κs = search needs
-
 returns-2 : tie.Need-returns-2
 returns-2 c = rw (entry (c .before .before .before), rw (c .before .entry-u82 .ensures) at (lt-ltb _ _ (c .if2 .taken)))
-
-entry-u16-requires : tie.Need-entry-u16-requires
-entry-u16-requires c κs = search needs
 
 returns-3 : tie.Need-returns-3
 returns-3 c =
@@ -46,4 +37,4 @@ returns-4 c =
 
 pub first-segment-refusal-spec : {M : Type 1} → statement M
 first-segment-refusal-spec =
-    tie.close (tie.spec entry-u8-requires returns entry-u8-requires-2 returns-2 entry-u16-requires returns-3 returns-4)
+    tie.close (tie.spec (λ c κs. search needs) returns (λ c κs. search needs) returns-2 (λ c κs. search needs) returns-3 returns-4)

@@ -1,6 +1,6 @@
 -- Each test that the code has passed is false in the list, and the one that it answers with is true.
 use mathlib.Core.Path.{_≡_, sym, _∙_}
-use mathlib.Core.Bool.{Bool, true, false, _&&_}
+use mathlib.Core.Bool.{true, false, _&&_}
 use native.Mathlib.Omega.{arith}
 use Prim.Native.Nat.{_<_}
 use borrow.Author.Tests.{lt-ltb}
@@ -10,7 +10,6 @@ use Rattle.lists.proofs.Refusals.{outside, inside}
 use Rattle.trains.specs.declared.Train.{Train}
 use Rattle.trains.specs.Train.{mostTrains, trainAt, isOn, ownOf}
 use Rattle.trains.specs.EnterLeave.{isExit, isLast}
-use Rattle.area.specs.declared.Area.{Area}
 use Rattle.area.specs.Sound.{sound}
 use Rattle.area.specs.Calls.{noTrain}
 use Rattle.area.proofs.leave_refusal.Statement.{statement}
@@ -52,16 +51,10 @@ returns-2 c = rw (is-sound (c .before), sym (outside mostTrains (c .before .befo
 cast-train-at : tie.Need-cast-train-at
 cast-train-at c = let h = inside mostTrains (start (c .before) .args .train) (c .before .if2 .left) in omega arith
 
-train-at-requires : tie.Need-train-at-requires
-train-at-requires c κs = search needs
-
 returns-3 : tie.Need-returns-3
 returns-3 c =
     let x = c .before .before in
     rw (is-sound (known x .before), numbered (known x), rw (x .train-at .ensures) at (c .if3 .taken))
-
-at-exit-requires : tie.Need-at-exit-requires
-at-exit-requires c κs = search needs
 
 returns-4 : tie.Need-returns-4
 returns-4 c =
@@ -78,4 +71,4 @@ returns-5 c =
 pub leave-refusal-spec : {M : Type 1} → statement M
 leave-refusal-spec =
     tie.close
-    (tie.spec returns returns-2 cast-train-at train-at-requires returns-3 at-exit-requires returns-4 returns-5)
+    (tie.spec returns returns-2 cast-train-at (λ c κs. search needs) returns-3 (λ c κs. search needs) returns-4 returns-5)

@@ -30,14 +30,8 @@ test-passed c n = passed-by (tests (c .before .before .before)) (c .before .ente
 abbrev passed : tie.After-before2 → tie.Else1
 passed c = c .before .before .before
 
-sound-requires : tie.Need-sound-requires
-sound-requires c κs = search needs
-
 enter-refusal-requires : tie.Need-enter-refusal-requires
 enter-refusal-requires c κs = c .sound .ensures
-
-answered-requires : tie.Need-answered-requires
-answered-requires c κs = search needs
 
 returns : tie.Need-returns
 unfolding enterCall
@@ -56,18 +50,6 @@ cast-r c =
     let h = within (a .self .tables .routes) (a .route) (test-passed c 16) in
     omega arith
 
-taken-all-requires : tie.Need-taken-all-requires
-taken-all-requires c κs = search needs
-
-entered-train-requires : tie.Need-entered-train-requires
-entered-train-requires c κs = search needs
-
-with-train-requires : tie.Need-with-train-requires
-with-train-requires c κs = search needs
-
-answered-requires-2 : tie.Need-answered-requires-2
-answered-requires-2 c κs = search needs
-
 returns-2 : tie.Need-returns-2
 unfolding enterCall afterEnter
 returns-2 c =
@@ -85,14 +67,14 @@ pub enter-spec : {M : Type 1} → statement M
 enter-spec =
     tie.close
     (tie.spec
-    sound-requires
+    (λ c κs. search needs)
     enter-refusal-requires
-    answered-requires
+    (λ c κs. search needs)
     returns
     cast-t
     cast-r
-    taken-all-requires
-    entered-train-requires
-    with-train-requires
-    answered-requires-2
+    (λ c κs. search needs)
+    (λ c κs. search needs)
+    (λ c κs. search needs)
+    (λ c κs. search needs)
     returns-2)

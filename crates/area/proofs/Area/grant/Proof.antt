@@ -15,30 +15,12 @@ passed c = c .before .before .before
 refusal : (c : tie.After-step-refusal) → c .step-refusal .result ≡ firstOf (stepTests grantDue (c .before .before .args .self)) .number
 refusal c = rw (c .before .sound .ensures) at (c .step-refusal .ensures)
 
-sound-requires : tie.Need-sound-requires
-sound-requires c κs = search needs
-
-step-refusal-requires : tie.Need-step-refusal-requires
-step-refusal-requires c κs = search needs
-
-answered-requires : tie.Need-answered-requires
-answered-requires c κs = search needs
-
 returns : tie.Need-returns
 unfolding grantCall
 returns c =
     let n = c .before .before in
     let a = n .before .before .args .self in
     c .answered .ensures ∙ refused-by (stepTests grantDue a) (refusal n) (afterGrant a) a refl (c .before .if1 .taken)
-
-granted-all-requires : tie.Need-granted-all-requires
-granted-all-requires c κs = search needs
-
-calmed-all-requires : tie.Need-calmed-all-requires
-calmed-all-requires c κs = search needs
-
-answered-requires-2 : tie.Need-answered-requires-2
-answered-requires-2 c κs = search needs
 
 returns-2 : tie.Need-returns-2
 unfolding grantCall afterGrant
@@ -53,4 +35,4 @@ returns-2 c =
 
 pub grant-spec : {M : Type 1} → statement M
 grant-spec =
-    tie.close (tie.spec sound-requires step-refusal-requires answered-requires returns granted-all-requires calmed-all-requires answered-requires-2 returns-2)
+    tie.close (tie.spec (λ c κs. search needs) (λ c κs. search needs) (λ c κs. search needs) returns (λ c κs. search needs) (λ c κs. search needs) (λ c κs. search needs) returns-2)

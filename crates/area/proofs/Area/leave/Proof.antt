@@ -14,14 +14,8 @@ use Rattle.area.proofs.Area.leave.Tie as tie
 abbrev passed : tie.After-before2 → tie.Else1
 passed c = c .before .before .before
 
-sound-requires : tie.Need-sound-requires
-sound-requires c κs = search needs
-
 leave-refusal-requires : tie.Need-leave-refusal-requires
 leave-refusal-requires c κs = c .sound .ensures
-
-answered-requires : tie.Need-answered-requires
-answered-requires c κs = search needs
 
 returns : tie.Need-returns
 unfolding leaveCall
@@ -37,18 +31,6 @@ cast-t c =
     let numbered = passed-by (leaveTests (a .self) (a .train)) (c .before .leave-refusal .ensures) refl (c .if1 .left) 13 in
     let h = within mostTrains (a .train) numbered in
     omega arith
-
-freed-all-requires : tie.Need-freed-all-requires
-freed-all-requires c κs = search needs
-
-train-off-requires : tie.Need-train-off-requires
-train-off-requires c κs = search needs
-
-with-train-requires : tie.Need-with-train-requires
-with-train-requires c κs = search needs
-
-answered-requires-2 : tie.Need-answered-requires-2
-answered-requires-2 c κs = search needs
 
 returns-2 : tie.Need-returns-2
 unfolding leaveCall afterLeave
@@ -67,13 +49,13 @@ pub leave-spec : {M : Type 1} → statement M
 leave-spec =
     tie.close
     (tie.spec
-    sound-requires
+    (λ c κs. search needs)
     leave-refusal-requires
-    answered-requires
+    (λ c κs. search needs)
     returns
     cast-t
-    freed-all-requires
-    train-off-requires
-    with-train-requires
-    answered-requires-2
+    (λ c κs. search needs)
+    (λ c κs. search needs)
+    (λ c κs. search needs)
+    (λ c κs. search needs)
     returns-2)

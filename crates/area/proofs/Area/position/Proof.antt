@@ -18,15 +18,6 @@ passed c = c .before .before .before
 refusal : (c : tie.After-step-refusal) → c .step-refusal .result ≡ firstOf (stepTests positionDue (c .before .before .args .self)) .number
 refusal c = rw (c .before .sound .ensures) at (c .step-refusal .ensures)
 
-sound-requires : tie.Need-sound-requires
-sound-requires c κs = search needs
-
-step-refusal-requires : tie.Need-step-refusal-requires
-step-refusal-requires c κs = search needs
-
-answered-requires : tie.Need-answered-requires
-answered-requires c κs = search needs
-
 returns : tie.Need-returns
 unfolding positionCall
 returns c =
@@ -34,18 +25,12 @@ returns c =
     let a = n .before .before .args .self in
     c .answered .ensures ∙ refused-by (stepTests positionDue a) (refusal n) (afterPosition a) a refl (c .before .if1 .taken)
 
-released-all-requires : tie.Need-released-all-requires
-released-all-requires c κs = search needs
-
 moved-all-requires : tie.Need-moved-all-requires
 moved-all-requires c κs =
     let p = passed (c .before) in
     let a = p .before .before .before .args .self in
     let unsound = passed-by (stepTests positionDue a) (refusal (p .before)) refl (p .if1 .left) 11 in
     room-of a (sound-iff a .0 (not-false _ unsound)) (search long-of)
-
-answered-requires-2 : tie.Need-answered-requires-2
-answered-requires-2 c κs = search needs
 
 returns-2 : tie.Need-returns-2
 unfolding positionCall afterPosition
@@ -60,4 +45,4 @@ returns-2 c =
 
 pub position-spec : {M : Type 1} → statement M
 position-spec =
-    tie.close (tie.spec sound-requires step-refusal-requires answered-requires returns released-all-requires moved-all-requires answered-requires-2 returns-2)
+    tie.close (tie.spec (λ c κs. search needs) (λ c κs. search needs) (λ c κs. search needs) returns (λ c κs. search needs) moved-all-requires (λ c κs. search needs) returns-2)

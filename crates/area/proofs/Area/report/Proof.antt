@@ -1,25 +1,12 @@
--- An unsound record gives 11 and zeros; of a sound one the numbers are those of the summary.
 use borrow.Author.Needs.{needs}
 use Rattle.lists.proofs.Cases.{test-fails, test-holds}
 use Rattle.area.specs.Calls.{reported}
 use Rattle.area.proofs.Area.report.Statement.{statement}
 use Rattle.area.proofs.Area.report.Tie as tie
 
-sound-requires : tie.Need-sound-requires
-sound-requires c κs = search needs
-
-answer-of-requires : tie.Need-answer-of-requires
-answer-of-requires c κs = search needs
-
 returns : tie.Need-returns
 unfolding reported
 returns c = rw (test-fails (c .before .before .sound .ensures) (c .before .if1 .taken), c .answer-of .ensures)
-
-summary-of-requires : tie.Need-summary-of-requires
-summary-of-requires c κs = search needs
-
-answer-of-requires-2 : tie.Need-answer-of-requires-2
-answer-of-requires-2 c κs = search needs
 
 returns-2 : tie.Need-returns-2
 unfolding reported
@@ -29,4 +16,4 @@ returns-2 c =
 
 pub report-spec : {M : Type 1} → statement M
 report-spec =
-    tie.close (tie.spec sound-requires answer-of-requires returns summary-of-requires answer-of-requires-2 returns-2)
+    tie.close (tie.spec (λ c κs. search needs) (λ c κs. search needs) returns (λ c κs. search needs) (λ c κs. search needs) returns-2)

@@ -1,4 +1,4 @@
--- The number of the first test that holds decides the outcome; where none does, the trains are those that the step makes.
+-- The number of the first test that holds decides the outcome; where none does, the contract of the requests makes the record.
 use mathlib.Core.Path.{_≡_, refl, _∙_}
 use borrow.Author.Needs.{needs}
 use Rattle.lists.specs.Tests.{firstOf}
@@ -11,27 +11,12 @@ use Rattle.area.proofs.Area.request.Tie as tie
 refusal : (c : tie.After-step-refusal) → c .step-refusal .result ≡ firstOf (stepTests requestDue (c .before .before .args .self)) .number
 refusal c = rw (c .before .sound .ensures) at (c .step-refusal .ensures)
 
-sound-requires : tie.Need-sound-requires
-sound-requires c κs = search needs
-
-step-refusal-requires : tie.Need-step-refusal-requires
-step-refusal-requires c κs = search needs
-
-answered-requires : tie.Need-answered-requires
-answered-requires c κs = search needs
-
 returns : tie.Need-returns
 unfolding requestCall
 returns c =
     let n = c .before .before in
     let a = n .before .before .args .self in
     c .answered .ensures ∙ refused-by (stepTests requestDue a) (refusal n) (afterRequest a) a refl (c .before .if1 .taken)
-
-requested-all-requires : tie.Need-requested-all-requires
-requested-all-requires c κs = search needs
-
-answered-requires-2 : tie.Need-answered-requires-2
-answered-requires-2 c κs = search needs
 
 returns-2 : tie.Need-returns-2
 unfolding requestCall afterRequest
@@ -44,4 +29,4 @@ returns-2 c =
 
 pub request-spec : {M : Type 1} → statement M
 request-spec =
-    tie.close (tie.spec sound-requires step-refusal-requires answered-requires returns requested-all-requires answered-requires-2 returns-2)
+    tie.close (tie.spec (λ c κs. search needs) (λ c κs. search needs) (λ c κs. search needs) returns (λ c κs. search needs) (λ c κs. search needs) returns-2)

@@ -1,4 +1,4 @@
--- Each part of the record is tested in turn, and the first that fails decides; tables that meet the rules are consistent, as the test of the trains asks.
+-- Each part that the code finds broken makes the conjunction false; the tables' part, passed, gives the trains' part what it asks for.
 use mathlib.Core.Path.{_≡_}
 use mathlib.Core.Bool.{true}
 use borrow.Author.Tests.{lt-leb, le-leb}
@@ -12,9 +12,6 @@ use Rattle.area.proofs.Area.sound.Tie as tie
 
 met : (c : tie.Else1) → meets (c .before .before .before .args .self .tables) ≡ true
 met c = test-holds (c .before .tables-meet .ensures) (c .if1 .left)
-
-tables-meet-requires : tie.Need-tables-meet-requires
-tables-meet-requires c κs = search needs
 
 returns : tie.Need-returns
 unfolding sound
@@ -33,9 +30,6 @@ returns-3 c =
     let d = c .before .before .before .before in
     rw (met (d .before), le-leb _ _ (d .if2 .left), test-fails (c .before .trains-sound .ensures) (c .if3 .taken))
 
-allocations-sound-requires : tie.Need-allocations-sound-requires
-allocations-sound-requires c κs = search needs
-
 returns-4 : tie.Need-returns-4
 unfolding sound
 returns-4 c =
@@ -44,4 +38,4 @@ returns-4 c =
     rw (met (d .before), le-leb _ _ (d .if2 .left), test-holds (e .before .trains-sound .ensures) (e .if3 .left)) (c .allocations-sound .ensures)
 
 pub sound-spec : {M : Type 1} → statement M
-sound-spec = tie.close (tie.spec tables-meet-requires returns returns-2 trains-sound-requires returns-3 allocations-sound-requires returns-4)
+sound-spec = tie.close (tie.spec (λ c κs. search needs) returns returns-2 trains-sound-requires returns-3 (λ c κs. search needs) returns-4)

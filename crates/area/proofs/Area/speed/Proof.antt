@@ -16,15 +16,6 @@ wishes s = now (s .args .wishes)
 refusal : (c : tie.After-speed-refusal) → let s = c .before .before .before in c .speed-refusal .result ≡ firstOf (speedTests (s .args .self) (wishes s)) .number
 refusal c = rw (c .before .sound .ensures) at (c .speed-refusal .ensures)
 
-sound-requires : tie.Need-sound-requires
-sound-requires c κs = search needs
-
-speed-refusal-requires : tie.Need-speed-refusal-requires
-speed-refusal-requires c κs = search needs
-
-answered-requires : tie.Need-answered-requires
-answered-requires c κs = search needs
-
 returns : tie.Need-returns
 unfolding speedCall
 returns c =
@@ -32,12 +23,6 @@ returns c =
     let s = n .before .before .before in
     let a = s .args .self in
     c .answered .ensures ∙ refused-by (speedTests a (wishes s)) (refusal n) (afterSpeed a (wishes s)) a refl (c .before .if1 .taken)
-
-sped-all-requires : tie.Need-sped-all-requires
-sped-all-requires c κs = search needs
-
-answered-requires-2 : tie.Need-answered-requires-2
-answered-requires-2 c κs = search needs
 
 returns-2 : tie.Need-returns-2
 unfolding speedCall afterSpeed
@@ -52,4 +37,4 @@ returns-2 c =
 
 pub speed-spec : {M : Type 1} → statement M
 speed-spec =
-    tie.close (tie.spec sound-requires speed-refusal-requires answered-requires returns sped-all-requires answered-requires-2 returns-2)
+    tie.close (tie.spec (λ c κs. search needs) (λ c κs. search needs) (λ c κs. search needs) returns (λ c κs. search needs) (λ c κs. search needs) returns-2)
