@@ -43,14 +43,17 @@ routebytes-of-requires c κs = search needs
 returns : tie.Need-returns
 unfolding decoded
 returns c =
+    let lists = c .before .before .before .before .before in
+    let numbers = lists .before in
+    let start = numbers .before .before .before .before in
     simp (
-      c .before .before .before .before .before .before .before .before .before .before .byte .ensures,
-      c .before .before .before .before .before .before .before .before .before .byte2 .ensures,
-      c .before .before .before .before .before .before .before .before .two-at .ensures,
-      c .before .before .before .before .before .before .before .two-at2 .ensures,
-      c .before .before .before .before .before .before .four-at .ensures,
-      c .before .before .before .before .before .before .before .before .before .before .before .block-of .ensures .0,
-      c .before .before .before .before .before .lengths-of .ensures,
+      start .byte .ensures,
+      numbers .before .before .before .byte2 .ensures,
+      numbers .before .before .two-at .ensures,
+      numbers .before .two-at2 .ensures,
+      numbers .four-at .ensures,
+      start .before .block-of .ensures .0,
+      lists .lengths-of .ensures,
       c .before .before .before .before .limits-of .ensures,
       c .before .before .before .links-of .ensures,
       c .before .before .links-of2 .ensures,

@@ -31,11 +31,12 @@ is-matched-requires-4 c κs = search needs
 returns : tie.Need-returns
 unfolding jointIn
 returns c =
+    let next = c .before .before .before .before in
     simp (
-      c .before .before .before .before .before .before .before .first-link .ensures,
-      c .before .before .before .before .before .before .is-matched .ensures,
-      c .before .before .before .before .before .second-link .ensures,
-      c .before .before .before .before .is-matched2 .ensures,
+      next .before .before .before .first-link .ensures,
+      next .before .before .is-matched .ensures,
+      next .before .second-link .ensures,
+      next .is-matched2 .ensures,
       c .before .before .before .first-link2 .ensures,
       c .before .before .is-matched3 .ensures,
       c .before .second-link2 .ensures,

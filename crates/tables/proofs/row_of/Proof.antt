@@ -26,10 +26,11 @@ entry-u8-requires c κs = search needs
 
 returns : tie.Need-returns
 returns c =
+    let links = c .before .before .before .before .before in
     simp (
-      c .before .before .before .before .before .before .before .before .entry-u32 .ensures,
-      c .before .before .before .before .before .before .entry-u16 .ensures,
-      c .before .before .before .before .before .first-link .ensures,
+      links .before .before .before .entry-u32 .ensures,
+      links .before .entry-u16 .ensures,
+      links .first-link .ensures,
       c .before .before .before .before .second-link .ensures,
       c .before .before .before .first-link2 .ensures,
       c .before .before .second-link2 .ensures,
