@@ -3,7 +3,7 @@ ghost use mathlib.Core.Path.{_≡_};
 ghost use mathlib.Core.Bool.{true, _&&_, _||_};
 ghost use Prim.Native.Nat.{_≤_, _<_, _-_};
 ghost use lib.Dec.{leb, eqb};
-ghost use Rattle.lists.specs.Words.{if_then_else_, at, every};
+ghost use Rattle.lists.specs.Words.{at, every};
 ghost use Rattle.braking.specs.Braking.{S};
 ghost use Rattle.tables.specs.Bounds.{mostSegments};
 ghost use Rattle.tables.specs.Facts.{Consistent};

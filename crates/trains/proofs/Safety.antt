@@ -7,7 +7,7 @@ use mathlib.Core.Bool.{Bool, true, false, not, _&&_, and-false, and-eq-true-iff}
 use native.Mathlib.Omega.{arith}
 use lib.Dec.{ltb, eqb}
 use borrow.Author.Tests.{ltb-true, leb-false, eqb-true, lt-ltb, le-ltb, eq-eqb, ne-eqb, lt-leb}
-use Rattle.lists.specs.Words.{if_then_else_, at}
+use Rattle.lists.specs.Words.{at}
 use Rattle.lists.proofs.Cases.{if-case, by-test, cases, lt-or-le, not-both, facts}
 use Rattle.braking.specs.Braking.{S, B}
 use Rattle.braking.proofs.Laws.{S-mono, S-B, B-step, S-above}
