@@ -122,7 +122,7 @@ fn enter_refusal(ok: bool, area: Area, train: u16, route: u16, speed: u16) -> En
         };
     }
     let trains = area.trains;
-    let x = trains::train_at(trains, train as u8);
+    let x = standing::train_at(trains, train as u8);
     if 0 < x.route {
         return Entry {
             number: 14,
@@ -136,7 +136,7 @@ fn enter_refusal(ok: bool, area: Area, train: u16, route: u16, speed: u16) -> En
             first: 0,
         };
     }
-    let first = tables::segment_at(&tables.routebytes, route as u8, 1);
+    let first = lookups::segment_at(&tables.routebytes, route as u8, 1);
     let held = area.allocations;
     let number = first_segment_refusal(&tables.flags, &held, &tables.limits, first, speed);
     Entry { number, first }
@@ -146,8 +146,8 @@ fn enter_refusal(ok: bool, area: Area, train: u16, route: u16, speed: u16) -> En
 fn at_exit<'a>(routebytes: &'a [u8; 960], flags: &'a [u8; 62], x: Train) -> bool
     ensures { λ r. ⌜ r ≡ (eqb (x .place) (countOf (now (routebytes .entry)) (x .route)) && eqb (at (now (flags .entry)) (ownIn (now (routebytes .entry)) x) / 2) 1) ⌝ }
 {
-    let own = trains::own_of(routebytes, x);
-    let last = tables::count_of(routebytes, x.route);
+    let own = standing::own_of(routebytes, x);
+    let last = lookups::count_of(routebytes, x.route);
     (x.place == last) & (entry_u8(flags, own as usize) / 2 == 1)
 }
 
@@ -162,7 +162,7 @@ fn leave_refusal(ok: bool, area: Area, train: u16) -> u8
         return 13;
     }
     let trains = area.trains;
-    let x = trains::train_at(trains, train as u8);
+    let x = standing::train_at(trains, train as u8);
     if x.route == 0 {
         return 15;
     }
@@ -209,7 +209,7 @@ impl Area {
         let held = self.allocations;
         let before = self.trains;
         let allocations = enter_leave::taken_all(held, entry.first, t);
-        let trains = enter_leave::with_train(before, t, trains::entered_train(r, speed));
+        let trains = enter_leave::with_train(before, t, standing::entered_train(r, speed));
         answered(
             Area {
                 tables,
@@ -234,7 +234,7 @@ impl Area {
         let held = self.allocations;
         let before = self.trains;
         let allocations = enter_leave::freed_all(held, t);
-        let trains = enter_leave::with_train(before, t, trains::train_off());
+        let trains = enter_leave::with_train(before, t, standing::train_off());
         answered(
             Area {
                 tables,

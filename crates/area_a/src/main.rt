@@ -20,8 +20,8 @@ fn refused(call: &[u8], answer: Answer) -> bool {
 fn list_train(cycle: u8, area: Area, train: u8) {
     let tables = area.tables;
     let trains = area.trains;
-    let x = trains::train_at(trains, train);
-    let segment = trains::own_of(&tables.routebytes, x);
+    let x = standing::train_at(trains, train);
+    let segment = standing::own_of(&tables.routebytes, x);
     console::say_number(b"", cycle as u64);
     console::say_number(b" ", train as u64);
     console::say_number(b" ", segment as u64);

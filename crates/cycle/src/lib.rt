@@ -59,7 +59,7 @@ fn sped_train(braking: u16, spot: Spot, wish: u16, x: Train) -> Train
     if x.route == 0 {
         return x;
     }
-    trains::with_speed(x, new_speed(braking, spot, x, wish))
+    standing::with_speed(x, new_speed(braking, spot, x, wish))
 }
 
 pub fn sped_all(
@@ -74,7 +74,7 @@ pub fn sped_all(
     let mut i: usize = 0;
     while i < 24 {
         let x = trains[i];
-        let spot = trains::spot_of(
+        let spot = standing::spot_of(
             &tables.routebytes,
             &tables.lengths,
             &tables.limits,
@@ -96,7 +96,7 @@ fn requested_train(spot: Spot, train: Train) -> Train
     if train.route == 0 {
         return train;
     }
-    trains::with_asking(train, trains::wants_next(spot))
+    standing::with_asking(train, standing::wants_next(spot))
 }
 
 pub fn requested_all(tables: Tables, allocations: [u8; 62], trains: [Train; 24]) -> [Train; 24]
@@ -106,7 +106,7 @@ pub fn requested_all(tables: Tables, allocations: [u8; 62], trains: [Train; 24])
     let mut i: usize = 0;
     while i < 24 {
         let x = trains[i];
-        let spot = trains::spot_of(
+        let spot = standing::spot_of(
             &tables.routebytes,
             &tables.lengths,
             &tables.limits,
@@ -141,9 +141,9 @@ fn moved_train(length: u32, x: Train) -> Train
 {
     let to = run_to(x.position, x.speed);
     if moves_on(length, x) {
-        return trains::moved_to(x, x.place + 1, (to - length as u64) as u32);
+        return standing::moved_to(x, x.place + 1, (to - length as u64) as u32);
     }
-    trains::moved_to(x, x.place, to as u32)
+    standing::moved_to(x, x.place, to as u32)
 }
 
 // A train off keeps its zeros: it has no segment, no position and no speed.
@@ -155,7 +155,7 @@ pub fn moved_all(tables: Tables, trains: [Train; 24]) -> [Train; 24]
     let mut i: usize = 0;
     while i < 24 {
         let x = trains[i];
-        let own = trains::own_of(&tables.routebytes, x);
+        let own = standing::own_of(&tables.routebytes, x);
         let length = entry_u32(&tables.lengths, own as usize);
         new[i] = moved_train(length, x);
         i += 1;
@@ -167,7 +167,7 @@ pub fn moved_all(tables: Tables, trains: [Train; 24]) -> [Train; 24]
 fn left_by<'a>(routebytes: &'a [u8; 960], lengths: &'a [u32; 62], x: Train) -> u8
     ensures { λ r. ⌜ r ≡ (if movesIn (at (now (lengths .entry)) (ownIn (now (routebytes .entry)) x)) x then ownIn (now (routebytes .entry)) x else 0) ⌝ }
 {
-    let own = trains::own_of(routebytes, x);
+    let own = standing::own_of(routebytes, x);
     let length = entry_u32(lengths, own as usize);
     if moves_on(length, x) { own } else { 0 }
 }

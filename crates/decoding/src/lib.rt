@@ -12,7 +12,7 @@ pub fn segment_block(file: &[u8], i: usize) -> &[u8]
     requires { ⌜ (i < 62) × (length (now file) ≡ fileSize) ⌝ }
     ensures { λ r. ⌜ now r ≡ segmentBlock (now (file .entry)) (i + 1) ⌝ }
 {
-    file::block_of(file, 1 + i / 31)
+    blocks::block_of(file, 1 + i / 31)
 }
 
 // Where segment record i + 1 starts in its block.
@@ -28,7 +28,7 @@ fn lengths_of(file: &[u8]) -> [u32; 62]
 {
     let mut lengths = [0u32; 62];
     for i in 0..62 {
-        lengths[i] = file::four_at(segment_block(file, i), segment_start(i));
+        lengths[i] = octets::four_at(segment_block(file, i), segment_start(i));
     }
     lengths
 }
@@ -39,7 +39,7 @@ fn limits_of(file: &[u8]) -> [u16; 62]
 {
     let mut limits = [0u16; 62];
     for i in 0..62 {
-        limits[i] = file::two_at(segment_block(file, i), segment_start(i) as u32 + 4);
+        limits[i] = octets::two_at(segment_block(file, i), segment_start(i) as u32 + 4);
     }
     limits
 }
@@ -52,7 +52,7 @@ fn links_of(file: &[u8], place: u8) -> [u8; 124]
     let mut links = [0u8; 124];
     for i in 0..124 {
         let at = segment_start(i / 2) as usize + place as usize + i % 2;
-        links[i] = file::byte(segment_block(file, i / 2), at);
+        links[i] = octets::byte(segment_block(file, i / 2), at);
     }
     links
 }
@@ -63,7 +63,7 @@ fn flags_of(file: &[u8]) -> [u8; 62]
 {
     let mut flags = [0u8; 62];
     for i in 0..62 {
-        flags[i] = file::byte(segment_block(file, i), segment_start(i) as usize + 10);
+        flags[i] = octets::byte(segment_block(file, i), segment_start(i) as usize + 10);
     }
     flags
 }
@@ -74,7 +74,7 @@ fn routebytes_of(file: &[u8]) -> [u8; 960]
 {
     let mut routebytes = [0u8; 960];
     for i in 0..960 {
-        routebytes[i] = file::byte(file::block_of(file, 3 + i / 480), i % 480);
+        routebytes[i] = octets::byte(blocks::block_of(file, 3 + i / 480), i % 480);
     }
     routebytes
 }
@@ -83,13 +83,13 @@ pub fn decode(file: &[u8]) -> Tables
     requires { ⌜ length (now file) ≡ fileSize ⌝ }
     ensures { λ r. ⌜ r ≡ decoded (now (file .entry)) ⌝ }
 {
-    let header = file::block_of(file, 0);
+    let header = blocks::block_of(file, 0);
     Tables {
-        segments: file::byte(header, 1),
-        routes: file::byte(header, 2),
-        gmax: file::two_at(header, 4),
-        braking: file::two_at(header, 6),
-        margin: file::four_at(header, 8),
+        segments: octets::byte(header, 1),
+        routes: octets::byte(header, 2),
+        gmax: octets::two_at(header, 4),
+        braking: octets::two_at(header, 6),
+        margin: octets::four_at(header, 8),
         lengths: lengths_of(file),
         limits: limits_of(file),
         next: links_of(file, 6),

@@ -3,7 +3,7 @@ use libc::STDOUT_FILENO;
 use trains::Train;
 
 fn say_train(trains: [Train; 24], t: u8) {
-    let x = trains::train_at(trains, t);
+    let x = standing::train_at(trains, t);
     if x.route == 0 {
         return;
     }
@@ -40,7 +40,7 @@ pub fn say_allocations(allocations: &[u8]) {
 }
 
 fn say_answer(answers: &[u8], k: usize) {
-    let number = file::byte(answers, k);
+    let number = octets::byte(answers, k);
     console::say_number(b"", number as u64);
     io::write_all(STDOUT_FILENO, b"\n");
 }

@@ -13,7 +13,7 @@ fn asked_by(routebytes: &[u8; 960], x: Train) -> u8
     ensures { λ r. ⌜ r ≡ (if x .asks then wantedIn (now (routebytes .entry)) x else 0) ⌝ }
 {
     if x.asks {
-        return trains::wanted_of(routebytes, x);
+        return standing::wanted_of(routebytes, x);
     }
     0
 }
@@ -94,7 +94,7 @@ pub fn calmed_all(trains: [Train; 24]) -> [Train; 24]
     let mut i: usize = 0;
     while i < 24 {
         let x = trains[i];
-        new[i] = trains::with_asking(x, false);
+        new[i] = standing::with_asking(x, false);
         i += 1;
     }
     new

@@ -35,7 +35,7 @@ pub fn items_of(script: &[u8]) -> [u16; MOST_ITEMS]
 {
     let mut items = [0u16; MOST_ITEMS];
     for i in 0..MOST_ITEMS {
-        items[i] = file::two_at(script, (2 * i) as u32);
+        items[i] = octets::two_at(script, (2 * i) as u32);
     }
     items
 }

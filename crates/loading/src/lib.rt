@@ -8,7 +8,7 @@ use tables::Tables;
 fn fresh_area(tables: Tables) -> Area
     ensures { λ r. ⌜ r ≡ fresh tables ⌝ }
 {
-    let off = trains::train_off();
+    let off = standing::train_off();
     Area {
         tables,
         allocations: [0; 62],
@@ -21,7 +21,7 @@ fn fresh_area(tables: Tables) -> Area
 pub fn load(file: &[u8]) -> Outcome
     ensures { λ r. ⌜ r ≡ loaded (now (file .entry)) ⌝ }
 {
-    let reading = reading::read(file);
+    let reading = judging::read(file);
     let answer = answers::answer_of(reading.number, reading.place);
     let tables = reading.tables;
     Outcome {

@@ -5,10 +5,10 @@ ghost use Rattle.lists.specs.Words.{every, firstFailing};
 ghost use Rattle.tables.specs.Bounds.{mostRoutes, longestRoute};
 ghost use Rattle.tables.specs.Tables.{segmentAt};
 ghost use Rattle.tables.specs.Rules.{restIn, usedRouteOk, unusedRouteOk, routeIn};
+use lookups::count_of;
+use lookups::links_to;
 use tables::LONGEST_ROUTE;
 use tables::MOST_ROUTES;
-use tables::count_of;
-use tables::links_to;
 
 // The byte of a record at a place, read straight: the count at 0, and then the segments.
 fn route_byte(routebytes: &[u8; 960], r: u8, p: u8) -> u8

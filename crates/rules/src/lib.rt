@@ -8,16 +8,16 @@ ghost use Rattle.tables.specs.Bounds.{mostSegments};
 ghost use Rattle.tables.specs.Tables.{rowOf};
 ghost use Rattle.tables.specs.Rules.{headerIn, linksOk, usedOk, unusedOk, rowOk, matched, jointIn, greater, orderIn, gentle, dropIn, meets};
 use lists::entry_u16;
+use lookups::first_link;
+use lookups::links_to;
+use lookups::row_of;
+use lookups::second_link;
 use tables::FASTEST;
 use tables::LONGEST;
 use tables::MOST_ROUTES;
 use tables::MOST_SEGMENTS;
 use tables::Segment;
 use tables::Tables;
-use tables::first_link;
-use tables::links_to;
-use tables::row_of;
-use tables::second_link;
 
 // ---- rules 4 and 5
 pub fn header_ok(segments: u8, routes: u8, gmax: u16, braking: u16, margin: u32) -> bool

@@ -61,7 +61,7 @@ fn braking_sound(braking: u16, margin: u32, due: u8, spot: Spot, x: Train) -> bo
 fn asking_sound(due: u8, spot: Spot, x: Train) -> bool
     ensures { λ r. ⌜ r ≡ askingSound due spot x ⌝ }
 {
-    let wants = (due == 2) & trains::wants_next(spot);
+    let wants = (due == 2) & standing::wants_next(spot);
     if x.asks {
         return wants;
     }
@@ -90,7 +90,7 @@ pub fn trains_sound(tables: Tables, allocations: [u8; 62], due: u8, trains: [Tra
     let mut i: usize = 0;
     while i < 24 {
         let x = trains[i];
-        let spot = trains::spot_of(
+        let spot = standing::spot_of(
             &tables.routebytes,
             &tables.lengths,
             &tables.limits,
@@ -124,8 +124,8 @@ fn allocation_sound(routebytes: &[u8; 960], segments: u8, s: u8, h: u8, x: Train
     if h == 0 {
         return true;
     }
-    let own = trains::is_occupied(routebytes, x, s);
-    let next = trains::is_ahead(routebytes, x, s);
+    let own = standing::is_occupied(routebytes, x, s);
+    let next = standing::is_ahead(routebytes, x, s);
     (h <= 24) & (s <= segments) & (0 < x.route) & (own | next)
 }
 

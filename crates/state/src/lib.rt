@@ -12,8 +12,8 @@ use trains::Train;
 fn train_bytes(x: Train) -> [u8; 32]
     ensures { λ r. ⌜ r ≡ trainBytes x ⌝ }
 {
-    let p = file::four(x.position);
-    let v = file::two(x.speed);
+    let p = octets::four(x.position);
+    let v = octets::two(x.speed);
     let held = [
         x.route,
         x.place,
@@ -27,7 +27,7 @@ fn train_bytes(x: Train) -> [u8; 32]
         v[1],
     ];
     let mut row = [0u8; 32];
-    file::put(&mut row, 0, &held);
+    octets::put(&mut row, 0, &held);
     row
 }
 
@@ -36,7 +36,7 @@ fn head_bytes(due: u8, allocations: [u8; 62]) -> [u8; 64]
 {
     let mut head = [0u8; 64];
     head[0] = due;
-    file::put(&mut head, 1, &allocations);
+    octets::put(&mut head, 1, &allocations);
     head
 }
 
@@ -45,7 +45,7 @@ fn write_trains(trains: [Train; 24], buffer: &mut [u8])
 {
     for i in 0..24 {
         let row = train_bytes(trains[i]);
-        file::put(buffer, (64 + 32 * i) as u16, &row);
+        octets::put(buffer, (64 + 32 * i) as u16, &row);
     }
 }
 
@@ -56,7 +56,7 @@ pub fn write_state(area: Area, buffer: &mut [u8])
     let allocations = area.allocations;
     let trains = area.trains;
     let head = head_bytes(area.due, allocations);
-    file::put(buffer, 0, &head);
+    octets::put(buffer, 0, &head);
     write_trains(trains, buffer);
 }
 
@@ -65,7 +65,7 @@ fn tables_of(file: &[u8]) -> Tables
     ensures { λ r. ⌜ r ≡ tablesOf (now (file .entry)) ⌝ }
 {
     if file.len() != file::FILE_SIZE {
-        return tables::blank_tables();
+        return lookups::blank_tables();
     }
     decoding::decode(file)
 }
@@ -75,7 +75,7 @@ fn allocations_of(state: &[u8]) -> [u8; 62]
 {
     let mut new = [0u8; 62];
     for i in 0..62 {
-        new[i] = file::byte(state, i + 1);
+        new[i] = octets::byte(state, i + 1);
     }
     new
 }
@@ -87,18 +87,18 @@ fn train_of(state: &[u8], i: u8) -> Train
     let start = 64 + 32 * (i as u16);
     let at = start as usize;
     Train {
-        route: file::byte(state, at),
-        place: file::byte(state, at + 1),
-        position: file::four_at(state, start + 4),
-        speed: file::two_at(state, start as u32 + 8),
-        asks: file::byte(state, at + 2) != 0,
+        route: octets::byte(state, at),
+        place: octets::byte(state, at + 1),
+        position: octets::four_at(state, start + 4),
+        speed: octets::two_at(state, start as u32 + 8),
+        asks: octets::byte(state, at + 2) != 0,
     }
 }
 
 fn trains_of(state: &[u8]) -> [Train; 24]
     ensures { λ r. ⌜ r ≡ tabulate mostTrains (trainOf (now (state .entry))) ⌝ }
 {
-    let off = trains::train_off();
+    let off = standing::train_off();
     let mut new = [off; 24];
     for i in 0..24 {
         new[i] = train_of(state, i as u8);
@@ -116,6 +116,6 @@ pub fn record_of(file: &[u8], state: &[u8]) -> Area
         tables,
         allocations,
         trains,
-        due: file::byte(state, 0),
+        due: octets::byte(state, 0),
     }
 }

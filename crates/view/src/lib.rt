@@ -14,7 +14,7 @@ pub struct Part {
 fn is_shown(file: &[u8], route: u16) -> bool
     ensures { λ r. ⌜ r ≡ shown (now (file .entry)) route ⌝ }
 {
-    let reading = reading::read(file);
+    let reading = judging::read(file);
     (reading.number == 0) & (1 <= route) & (route <= reading.tables.routes as u16)
 }
 
@@ -36,7 +36,7 @@ pub fn view_of(file: &[u8], route: u16) -> Part
     let start = route_start(route as usize - 1);
     Part {
         start: start as u32 + 1,
-        count: file::byte(file, start) as u32,
+        count: octets::byte(file, start) as u32,
     }
 }
 

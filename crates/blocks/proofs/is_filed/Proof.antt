@@ -1,0 +1,42 @@
+-- Kind, block number, the tail's zeros and a route block's zeros are each tested as the definition tests them.
+use borrow.Author.Needs.{needs}
+use Rattle.file.specs.Blocks.{filed}
+use Rattle.blocks.proofs.is_filed.Statement.{statement}
+use Rattle.blocks.proofs.is_filed.Tie as tie
+
+byte-requires : tie.Need-byte-requires
+byte-requires c κs = search needs
+
+kind-of-requires : tie.Need-kind-of-requires
+kind-of-requires c κs = search needs
+
+byte-requires-2 : tie.Need-byte-requires-2
+byte-requires-2 c κs = search needs
+
+are-zeros-requires : tie.Need-are-zeros-requires
+are-zeros-requires c κs = search needs
+
+are-zeros-requires-2 : tie.Need-are-zeros-requires-2
+are-zeros-requires-2 c κs = search needs
+
+returns : tie.Need-returns
+unfolding filed
+returns c =
+    simp (
+      c .before .before .before .before .byte .ensures,
+      c .before .before .before .kind-of .ensures,
+      c .before .before .byte2 .ensures,
+      c .before .are-zeros .ensures,
+      c .are-zeros2 .ensures,
+    )
+
+pub is-filed-spec : {M : Type 1} → statement M
+is-filed-spec =
+    tie.close
+    (tie.spec
+    byte-requires
+    kind-of-requires
+    byte-requires-2
+    are-zeros-requires
+    are-zeros-requires-2
+    returns)
