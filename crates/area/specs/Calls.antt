@@ -1,19 +1,18 @@
 -- The calls on an area (document 01, "The calls" and "Refusals" 11 to 21). Each has its tests in the paper's order, of which the
 -- first that holds is the answer, and the record that it hands back when none holds; a refusal hands back the record as it came.
 use Prim.Native.Nat.{ℕ}
-use mathlib.Core.Bool.{Bool, not, _&&_}
+use mathlib.Core.Bool.{Bool, not}
 use mathlib.Core.List.{List, [], _∷_}
-use lib.Dec.{leb, ltb, eqb}
+use lib.Dec.{eqb}
 use lib.ListN.{length}
-use Rattle.lists.specs.Words.{if_then_else_, at, each}
+use Rattle.lists.specs.Words.{if_then_else_, each}
 use Rattle.lists.specs.Tests.{Test, _⇒_, firstOf}
-use Rattle.tables.specs.declared.Tables.{Tables}
 use Rattle.summary.specs.Summary.{summaryOf}
 use Rattle.trains.specs.Due.{speedDue, requestDue, grantDue, positionDue}
-use Rattle.trains.specs.Train.{mostTrains, off, entered, trainAt, isOn, ownOf}
+use Rattle.trains.specs.Train.{mostTrains, off, entered}
 use Rattle.trains.specs.Cycle.{sped, requested, moved, freed}
 use Rattle.trains.specs.Grant.{granted, calmed}
-use Rattle.trains.specs.EnterLeave.{firstSegment, takenBy, freedBy, becomes, isEntry, isExit, isLast}
+use Rattle.trains.specs.EnterLeave.{firstSegment, takenBy, freedBy, becomes, entryTests, exitTests}
 use Rattle.area.specs.declared.Area.{Area}
 use Rattle.area.specs.declared.Outcome.{Outcome}
 use Rattle.area.specs.declared.Report.{Report}
@@ -31,27 +30,9 @@ outcome tests new old = outcomeBy (firstOf tests) new old
 abbrev pub notDue : ℕ → Area → Bool
 notDue step a = not (eqb (a .due) step)
 
--- 13: number not 1 to 24; 16: not 1 to R
-abbrev pub noTrain : ℕ → Bool
-noTrain t = not (leb 1 t && leb t mostTrains)
-
-abbrev pub noRoute : Tables → ℕ → Bool
-noRoute T r = not (leb 1 r && leb r (T .routes))
-
--- ---- enter (train t, route r, speed v): the tests of the train, and the tests of the route
-abbrev pub admissionTests : Area → ℕ → List Test → List Test
-admissionTests a t rest = not (sound a) ⇒ 11 ∷ noTrain t ⇒ 13 ∷ isOn (trainAt (a .trains) t) ⇒ 14 ∷ rest
-
-abbrev pub routeTests : Area → ℕ → ℕ → List Test
-routeTests a r v =
-    noRoute (a .tables) r ⇒ 16
-    ∷ not (isEntry (a .tables) (firstSegment (a .tables) r)) ⇒ 17
-    ∷ ltb 0 (at (a .allocations) (firstSegment (a .tables) r)) ⇒ 18
-    ∷ ltb (at (a .tables .limits) (firstSegment (a .tables) r)) v ⇒ 19
-    ∷ []
-
+-- ---- enter (train t, route r, speed v)
 abbrev pub enterTests : Area → ℕ → ℕ → ℕ → List Test
-enterTests a t r v = admissionTests a t (routeTests a r v)
+enterTests a t r v = not (sound a) ⇒ 11 ∷ entryTests (a .tables) (a .allocations) (a .trains) t r v
 
 unfoldable pub afterEnter : Area → ℕ → ℕ → ℕ → Area
 afterEnter a t r v =
@@ -67,12 +48,7 @@ enterCall a t r v = outcome (enterTests a t r v) (afterEnter a t r v) a
 
 -- ---- leave (train t)
 abbrev pub leaveTests : Area → ℕ → List Test
-leaveTests a t =
-    not (sound a) ⇒ 11
-    ∷ noTrain t ⇒ 13
-    ∷ not (isOn (trainAt (a .trains) t)) ⇒ 15
-    ∷ not (isLast (a .tables) (trainAt (a .trains) t) && isExit (a .tables) (ownOf (a .tables) (trainAt (a .trains) t))) ⇒ 20
-    ∷ []
+leaveTests a t = not (sound a) ⇒ 11 ∷ exitTests (a .tables) (a .trains) t
 
 unfoldable pub afterLeave : Area → ℕ → Area
 afterLeave a t =

@@ -1,11 +1,15 @@
-// What becomes of the trains and of the allocations at speed, request and position. Tables come by value once per step; their arrays
-// are lent to the leaves.
+// What becomes of the trains and of the allocations at speed, request and position. Speed and request read where each train stands;
+// position takes the tables by value once, whose arrays are lent to the leaves.
 ghost use mathlib.Core.Path.{_≡_};
 ghost use Prim.Native.Nat.{ℕ, _+_, _-_, min, max};
+ghost use mathlib.Core.Bool.{not};
+ghost use mathlib.Core.List.{[], _∷_};
 ghost use lib.Dec.{eqb};
 ghost use Rattle.lists.specs.Words.{if_then_else_, at, each};
-ghost use Rattle.trains.specs.Train.{withSpeed, withAsking, trainAt, isOn, ownIn, ownOf};
-ghost use Rattle.trains.specs.Cycle.{upperEnd, newSpeed, sped, wants, requested, movesIn, movesOn, moved, movedIn, freed};
+ghost use Rattle.lists.specs.Tests.{_⇒_, firstOf};
+ghost use Rattle.trains.specs.Train.{trainAt, ownIn, ownOf};
+ghost use Rattle.trains.specs.Cycle.{upperEnd, newSpeed, spedAt, requestedAt, movesIn, movesOn, moved, movedIn, freed};
+ghost use Rattle.standing.specs.Spots.{spotAt};
 ghost use Rattle.cycle.specs.Room.{Room};
 use lists::entry_u8;
 use lists::entry_u16;
@@ -13,6 +17,34 @@ use lists::entry_u32;
 use tables::Tables;
 use trains::Spot;
 use trains::Train;
+
+// ---- the number of the first test of a step that holds, 0 where none does; `ok` says whether the record is sound
+pub fn step_refusal(ok: bool, due: u8, step: u8) -> u8
+    ensures { λ r. ⌜ r ≡ firstOf (not ok ⇒ 11 ∷ not (eqb due step) ⇒ 12 ∷ []) .number ⌝ }
+{
+    if !ok {
+        return 11;
+    }
+    if due != step {
+        return 12;
+    }
+    0
+}
+
+pub fn speed_refusal(ok: bool, due: u8, wishes: usize) -> u8
+    ensures { λ r. ⌜ r ≡ firstOf (not ok ⇒ 11 ∷ not (eqb due 0) ⇒ 12 ∷ not (eqb wishes 24) ⇒ 21 ∷ []) .number ⌝ }
+{
+    if !ok {
+        return 11;
+    }
+    if due != 0 {
+        return 12;
+    }
+    if wishes != 24 {
+        return 21;
+    }
+    0
+}
 
 // ---- speed
 fn lowered(speed: u16, braking: u16) -> u16
@@ -54,7 +86,7 @@ fn new_speed(braking: u16, spot: Spot, x: Train, wish: u16) -> u16
 }
 
 fn sped_train(braking: u16, spot: Spot, wish: u16, x: Train) -> Train
-    ensures { λ r. ⌜ r ≡ (if isOn x then withSpeed x (newSpeed braking spot x wish) else x) ⌝ }
+    ensures { λ r. ⌜ r ≡ spedAt braking spot wish x ⌝ }
 {
     if x.route == 0 {
         return x;
@@ -62,28 +94,15 @@ fn sped_train(braking: u16, spot: Spot, wish: u16, x: Train) -> Train
     standing::with_speed(x, new_speed(braking, spot, x, wish))
 }
 
-pub fn sped_all(
-    tables: Tables,
-    allocations: [u8; 62],
-    wishes: &[u16],
-    trains: [Train; 24],
-) -> [Train; 24]
-    ensures { λ r. ⌜ r ≡ each (sped tables allocations (now (wishes .entry))) trains ⌝ }
+pub fn sped_all(braking: u16, wishes: &[u16], spots: [Spot; 24], trains: [Train; 24]) -> [Train; 24]
+    ensures { λ r. ⌜ r ≡ each (λ t x. spedAt braking (spotAt spots t) (at (now (wishes .entry)) t) x) trains ⌝ }
 {
     let mut new = trains;
     let mut i: usize = 0;
     while i < 24 {
         let x = trains[i];
-        let spot = standing::spot_of(
-            &tables.routebytes,
-            &tables.lengths,
-            &tables.limits,
-            &allocations,
-            tables.margin,
-            (i + 1) as u8,
-            x,
-        );
-        new[i] = sped_train(tables.braking, spot, entry_u16(wishes, i + 1), x);
+        let spot = spots[i];
+        new[i] = sped_train(braking, spot, entry_u16(wishes, i + 1), x);
         i += 1;
     }
     new
@@ -91,7 +110,7 @@ pub fn sped_all(
 
 // ---- request
 fn requested_train(spot: Spot, train: Train) -> Train
-    ensures { λ r. ⌜ r ≡ (if isOn train then withAsking train (wants spot) else train) ⌝ }
+    ensures { λ r. ⌜ r ≡ requestedAt spot train ⌝ }
 {
     if train.route == 0 {
         return train;
@@ -99,22 +118,14 @@ fn requested_train(spot: Spot, train: Train) -> Train
     standing::with_asking(train, standing::wants_next(spot))
 }
 
-pub fn requested_all(tables: Tables, allocations: [u8; 62], trains: [Train; 24]) -> [Train; 24]
-    ensures { λ r. ⌜ r ≡ each (requested tables allocations) trains ⌝ }
+pub fn requested_all(spots: [Spot; 24], trains: [Train; 24]) -> [Train; 24]
+    ensures { λ r. ⌜ r ≡ each (λ t x. requestedAt (spotAt spots t) x) trains ⌝ }
 {
     let mut new = trains;
     let mut i: usize = 0;
     while i < 24 {
         let x = trains[i];
-        let spot = standing::spot_of(
-            &tables.routebytes,
-            &tables.lengths,
-            &tables.limits,
-            &allocations,
-            tables.margin,
-            (i + 1) as u8,
-            x,
-        );
+        let spot = spots[i];
         new[i] = requested_train(spot, x);
         i += 1;
     }

@@ -265,3 +265,10 @@ pub least-same : (n : ℕ) (p q : ℕ → Bool) → ((k : ℕ) → 1 ≤ k → k
 unfolding least
 least-same zero p q f = refl
 least-same (suc n) p q f = rw (least-same n p q (λ k low high. f k low (omega arith)), f (suc n) (omega arith) (omega arith))
+
+-- the same tests hold for all or for not all
+pub every-same : (n : ℕ) (p q : ℕ → Bool) → ((k : ℕ) → 1 ≤ k → k ≤ n → p k ≡ q k) → every n p ≡ every n q
+unfolding every
+every-same zero p q same = refl
+every-same (suc n) p q same =
+    rw (every-same n p q (λ k low high. same k low (omega arith)), same (suc n) (omega arith) (omega arith))

@@ -163,3 +163,23 @@ unfolding tabulate
 tabulate-same zero f g h = refl
 tabulate-same (suc n) f g h =
     rw (h 1 (omega arith) (omega arith), tabulate-same n (λ (k : ℕ). f (suc k)) (λ (k : ℕ). g (suc k)) (λ k low high. h (suc k) (omega arith) (omega arith)))
+
+-- what a step makes of each entry and of the entry beside it in a list that another step made of the same entries
+each-beside :
+    {A B C : Type 0} (b : B) (f : ℕ → A → B) (g : ℕ → B → A → C) (l : List A)
+    → each (λ (n : ℕ) (x : A). g n (nth b (each f l) n) x) l ≡ each (λ (n : ℕ) (x : A). g n (f n x) x) l
+unfolding each nth
+each-beside b f g [] = refl
+each-beside {A} {B} {C} b f g (x ∷ l) =
+    ap (λ (r : List C). g 1 (f 1 x) x ∷ r)
+    (each-same _ _ l (λ n y low high. ap (λ (z : B). g (suc n) z y) (later n low)) ∙ each-beside b (λ (n : ℕ). f (suc n)) (λ (n : ℕ). g (suc n)) l)
+  where
+    later : (n : ℕ) → 1 ≤ n → getD (f 1 x ∷ each (λ (k : ℕ). f (suc k)) l) n b ≡ nth b (each (λ (k : ℕ). f (suc k)) l) n
+    later zero low = absurd (omega arith)
+    later (suc n) low = refl
+
+pub made-beside :
+    {A B C : Type 0} (b : B) (f : ℕ → A → B) (g : ℕ → B → A → C) (l : List A) {m : List B} {new : List C}
+    → m ≡ each f l → new ≡ each (λ (n : ℕ) (x : A). g n (nth b m n) x) l → new ≡ each (λ (n : ℕ) (x : A). g n (f n x) x) l
+made-beside {A} {B} {C} b f g l e h =
+    h ∙ (ap (λ (k : List B). each (λ (n : ℕ) (x : A). g n (nth b k n) x) l) e ∙ each-beside b f g l)

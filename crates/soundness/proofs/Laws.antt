@@ -1,23 +1,29 @@
--- What a train at its place says of its speed: it stops within the end distance. An allocation by its holder's slot.
+-- What a train at its place says of its speed: it stops within the end distance. The tests of all trains by the list of where they
+-- stand. An allocation by its holder's slot.
 use Prim.Native.Nat.{ℕ, _-_, _≤_}
-use mathlib.Core.Path.{_≡_}
+use mathlib.Core.Path.{_≡_, ap, _∙_}
 use mathlib.Core.Bool.{true, _&&_, _||_, and-false}
 use mathlib.Core.List.{List}
-use native.Mathlib.Nat.{le-refl}
+use native.Mathlib.Nat.{le-refl, not-suc-le-zero}
 use native.Mathlib.Omega.{arith}
 use lib.Dec.{leb, eqb}
 use lib.ListN.{length, getD}
 use borrow.Author.Tests.{le-leb, lt-leb, eq-eqb}
 use Rattle.lists.proofs.Cases.{if-case, cases, lt-or-le, eq-or-ne}
-use Rattle.lists.proofs.Numbered.{nth-in, nth-out}
+use Rattle.lists.specs.Words.{at, every}
+use Rattle.lists.proofs.Loops.{every-same}
+use Rattle.lists.proofs.Numbered.{nth-in, nth-out, nth-where, nth-each-in}
 use Rattle.braking.specs.Braking.{S}
 use Rattle.braking.proofs.Laws.{S-B}
 use Rattle.tables.specs.declared.Tables.{Tables}
 use Rattle.tables.specs.Facts.{Consistent}
 use Rattle.trains.specs.declared.Train.{Train}
-use Rattle.trains.specs.Train.{mostTrains, off, isOn, ownLimit, occupied, ahead}
+use Rattle.trains.specs.declared.Spot.{Spot}
+use Rattle.trains.specs.Train.{mostTrains, off, trainAt, isOn, ownLimit, occupied, ahead}
 use Rattle.trains.specs.Spot.{spotOf}
-use Rattle.trains.specs.Sound.{placeSound, toRun, allocationSound}
+use Rattle.trains.specs.Sound.{placeSound, toRun, standsSound, trainSound, allocationSound}
+use Rattle.standing.specs.Spots.{spotsOf, noSpot, spotAt}
+use Rattle.soundness.specs.Stopping.{Stopping}
 use Rattle.trains.proofs.Safety.{in-margin}
 use Rattle.trains.proofs.Soundness.{place-facts}
 
@@ -32,6 +38,29 @@ pub limit-stops :
 limit-stops T ok held t x on h =
     let f = place-facts (T .routes) (spotOf T held t x) x h in
     in-margin T ok x (record { routeLow = on; routeHigh = f .0; placeLow = f .1; placeHigh = f .2 }) (ownLimit T x) (le-refl (ownLimit T x))
+
+-- the list of where trains stand has each train's own spot: what the tests ask holds of it, and they are the tests of the record
+module _ (T : Tables) (A : List ℕ) (trains : List Train) {spots : List Spot} (long : length trains ≡ mostTrains) (e : spots ≡ spotsOf T A trains) where
+  spot-at : (t : ℕ) → 1 ≤ t → t ≤ mostTrains → spotAt spots t ≡ spotOf T (at A) t (trainAt trains t)
+  spot-at t low high = ap (λ (l : List Spot). spotAt l t) e ∙ nth-each-in off noSpot (spotOf T (at A)) trains t low (omega arith)
+
+  pub stopping : Consistent T → Stopping (T .routes) (T .braking) (T .margin) spots trains
+  stopping ok =
+      record {
+        rate = ok .rate;
+        stops =
+            λ t.
+            nth-where off trains t _
+            (λ low high. rw (spot-at t low (omega arith)) (limit-stops T ok (at A) t (trainAt trains t)))
+            (λ none on. absurd (not-suc-le-zero (rw none at on)));
+      }
+
+  pub tests-same :
+      (due : ℕ)
+      → every mostTrains (λ (t : ℕ). standsSound (T .routes) (T .braking) due (spotAt spots t) (trainAt trains t))
+      ≡ every mostTrains (λ (t : ℕ). trainSound T A due t (trainAt trains t))
+  tests-same due =
+      every-same mostTrains _ _ (λ t low high. ap (λ (p : Spot). standsSound (T .routes) (T .braking) due p (trainAt trains t)) (spot-at t low high))
 
 -- a segment's allocation, with the train of the slot k, which is the holder's where there is one
 pub holder-sound :

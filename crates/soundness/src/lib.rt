@@ -6,9 +6,10 @@ ghost use lib.Dec.{leb, eqb};
 ghost use Rattle.lists.specs.Words.{at, every};
 ghost use Rattle.braking.specs.Braking.{S};
 ghost use Rattle.tables.specs.Bounds.{mostSegments};
-ghost use Rattle.tables.specs.Facts.{Consistent};
 ghost use Rattle.trains.specs.Train.{mostTrains, trainAt, isOn, occupiedIn, aheadIn};
-ghost use Rattle.trains.specs.Sound.{offSound, placeSound, toRun, brakingSound, askingSound, standsSound, trainSound, allocationSound};
+ghost use Rattle.trains.specs.Sound.{offSound, placeSound, toRun, brakingSound, askingSound, standsSound, allocationSound};
+ghost use Rattle.standing.specs.Spots.{spotAt};
+ghost use Rattle.soundness.specs.Stopping.{Stopping};
 use tables::Tables;
 use trains::Spot;
 use trains::Train;
@@ -82,24 +83,22 @@ fn train_sound(routes: u8, braking: u16, margin: u32, due: u8, spot: Spot, x: Tr
     braking_sound(braking, margin, due, spot, x) & asking_sound(due, spot, x)
 }
 
-// Tables are tested first: of consistent tables S(`gmax`) ≤ `d`.
-pub fn trains_sound(tables: Tables, allocations: [u8; 62], due: u8, trains: [Train; 24]) -> bool
-    requires { ⌜ Consistent tables ⌝ }
-    ensures { λ r. ⌜ r ≡ every mostTrains (λ t. trainSound tables allocations due t (trainAt trains t)) ⌝ }
+pub fn trains_sound(
+    routes: u8,
+    braking: u16,
+    margin: u32,
+    due: u8,
+    spots: [Spot; 24],
+    trains: [Train; 24],
+) -> bool
+    requires { ⌜ Stopping routes braking margin spots trains ⌝ }
+    ensures { λ r. ⌜ r ≡ every mostTrains (λ t. standsSound routes braking due (spotAt spots t) (trainAt trains t)) ⌝ }
 {
     let mut i: usize = 0;
     while i < 24 {
         let x = trains[i];
-        let spot = standing::spot_of(
-            &tables.routebytes,
-            &tables.lengths,
-            &tables.limits,
-            &allocations,
-            tables.margin,
-            (i + 1) as u8,
-            x,
-        );
-        if !train_sound(tables.routes, tables.braking, tables.margin, due, spot, x) {
+        let spot = spots[i];
+        if !train_sound(routes, braking, margin, due, spot, x) {
             return false;
         }
         i += 1;

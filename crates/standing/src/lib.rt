@@ -2,10 +2,11 @@
 ghost use mathlib.Core.Path.{_≡_};
 ghost use Prim.Native.Nat.{_-_};
 ghost use lib.Dec.{leb, eqb};
-ghost use Rattle.lists.specs.Words.{at};
+ghost use Rattle.lists.specs.Words.{at, each};
 ghost use Rattle.trains.specs.Train.{off, entered, withSpeed, withAsking, movedTo, trainAt, ownIn, nextIn, occupiedIn, aheadIn, wantedIn};
 ghost use Rattle.trains.specs.Spot.{spotIn};
 ghost use Rattle.trains.specs.Cycle.{wants};
+ghost use Rattle.standing.specs.Spots.{noSpot};
 use lists::entry_u8;
 use lists::entry_u16;
 use lists::entry_u32;
@@ -137,7 +138,7 @@ fn is_held(allocations: &[u8; 62], s: u8, t: u8) -> bool
     entry_u8(allocations, s as usize) == t
 }
 
-pub fn spot_of<'a>(
+fn spot_of<'a>(
     routebytes: &'a [u8; 960],
     lengths: &'a [u32; 62],
     limits: &'a [u16; 62],
@@ -161,6 +162,50 @@ pub fn spot_of<'a>(
         holds: (0 < next) & is_held(allocations, next, t),
         near: is_near(length, margin, x.position),
     }
+}
+
+fn no_spot() -> Spot
+    ensures { λ r. ⌜ r ≡ noSpot ⌝ }
+{
+    Spot {
+        count: 0,
+        length: 0,
+        limit: 0,
+        held: false,
+        next: 0,
+        nextlimit: 0,
+        holds: false,
+        near: false,
+    }
+}
+
+// Where each train stands.
+pub fn spots_of<'a>(
+    routebytes: &'a [u8; 960],
+    lengths: &'a [u32; 62],
+    limits: &'a [u16; 62],
+    allocations: &'a [u8; 62],
+    margin: u32,
+    trains: [Train; 24],
+) -> [Spot; 24]
+    ensures { λ r. ⌜ r ≡ each (spotIn (now (routebytes .entry)) (now (lengths .entry)) (now (limits .entry)) margin (at (now (allocations .entry)))) trains ⌝ }
+{
+    let mut new = [no_spot(); 24];
+    let mut i: usize = 0;
+    while i < 24 {
+        let x = trains[i];
+        new[i] = spot_of(
+            routebytes,
+            lengths,
+            limits,
+            allocations,
+            margin,
+            (i + 1) as u8,
+            x,
+        );
+        i += 1;
+    }
+    new
 }
 
 // Near, with a next that is not allocated to it.

@@ -24,15 +24,21 @@ unfoldable pub newSpeed : (b : ℕ) → Spot → Train → (wish : ℕ) → ℕ
 newSpeed b p x wish = if p .near && not (p .holds) then low b x else max (low b x) (min (upperEnd p) wish)
 
 -- entries of trains off are ignored
+abbrev pub spedAt : (b : ℕ) → Spot → (wish : ℕ) → Train → Train
+spedAt b p wish x = if isOn x then withSpeed x (newSpeed b p x wish) else x
+
 unfoldable pub sped : Tables → List ℕ → (wishes : List ℕ) → ℕ → Train → Train
-sped T A wishes t x = if isOn x then withSpeed x (newSpeed (T .braking) (spotOf T (at A) t x) x (at wishes t)) else x
+sped T A wishes t x = spedAt (T .braking) (spotOf T (at A) t x) (at wishes t) x
 
 -- *Request*: a near train whose next exists and isn't allocated to it asks
 unfoldable pub wants : Spot → Bool
 wants p = p .near && ltb 0 (p .next) && not (p .holds)
 
+abbrev pub requestedAt : Spot → Train → Train
+requestedAt p x = if isOn x then withAsking x (wants p) else x
+
 unfoldable pub requested : Tables → List ℕ → ℕ → Train → Train
-requested T A t x = if isOn x then withAsking x (wants (spotOf T (at A) t x)) else x
+requested T A t x = requestedAt (spotOf T (at A) t x) x
 
 -- *Position*: position + speed. At or above the length it moves on: length subtracted, old segment freed
 unfoldable pub movesIn : (length : ℕ) → Train → Bool

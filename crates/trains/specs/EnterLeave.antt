@@ -1,12 +1,15 @@
 -- What becomes of the trains and of one segment's allocation at enter and leave, and what these two ask (document 01, "The calls").
 -- T are the tables of the area, A its allocations, t the number of a train, x the train, s the number of a segment, h who holds it.
 use Prim.Native.Nat.{ℕ, _/_, _%_}
-use mathlib.Core.Bool.{Bool}
-use lib.Dec.{eqb}
+use mathlib.Core.Bool.{Bool, not, _&&_}
+use mathlib.Core.List.{List, [], _∷_}
+use lib.Dec.{leb, ltb, eqb}
 use Rattle.lists.specs.Words.{if_then_else_, at}
+use Rattle.lists.specs.Tests.{Test, _⇒_}
 use Rattle.tables.specs.declared.Tables.{Tables}
 use Rattle.tables.specs.Tables.{countOf, segmentAt}
 use Rattle.trains.specs.declared.Train.{Train}
+use Rattle.trains.specs.Train.{mostTrains, trainAt, isOn, ownOf}
 
 -- *Enter*: position 0 of the first segment, which becomes allocated to train t
 abbrev pub firstSegment : Tables → ℕ → ℕ
@@ -33,3 +36,28 @@ isExit T s = eqb (at (T .flags) s / 2) 1
 -- its segment is the route's last
 abbrev pub isLast : Tables → Train → Bool
 isLast T x = eqb (x .place) (countOf (T .routebytes) (x .route))
+
+-- 13: number not 1 to 24; 16: not 1 to R
+abbrev pub noTrain : ℕ → Bool
+noTrain t = not (leb 1 t && leb t mostTrains)
+
+abbrev pub noRoute : Tables → ℕ → Bool
+noRoute T r = not (leb 1 r && leb r (T .routes))
+
+-- the tests of enter (train t, route r, speed v) and of leave that come after 11
+abbrev pub entryTests : Tables → List ℕ → List Train → (t r v : ℕ) → List Test
+entryTests T A trains t r v =
+    noTrain t ⇒ 13
+    ∷ isOn (trainAt trains t) ⇒ 14
+    ∷ noRoute T r ⇒ 16
+    ∷ not (isEntry T (firstSegment T r)) ⇒ 17
+    ∷ ltb 0 (at A (firstSegment T r)) ⇒ 18
+    ∷ ltb (at (T .limits) (firstSegment T r)) v ⇒ 19
+    ∷ []
+
+abbrev pub exitTests : Tables → List Train → ℕ → List Test
+exitTests T trains t =
+    noTrain t ⇒ 13
+    ∷ not (isOn (trainAt trains t)) ⇒ 15
+    ∷ not (isLast T (trainAt trains t) && isExit T (ownOf T (trainAt trains t))) ⇒ 20
+    ∷ []

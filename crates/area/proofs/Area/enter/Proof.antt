@@ -8,7 +8,7 @@ use native.Mathlib.Omega.{arith}
 use mir.Syntax.{w8}
 use mir.Val.{Fits}
 use borrow.Author.Needs.{needs}
-use Rattle.lists.specs.Tests.{Test, conditionOf}
+use Rattle.lists.specs.Tests.{Test, firstOf, conditionOf}
 use Rattle.lists.proofs.Refusals.{within}
 use Rattle.trains.specs.Train.{mostTrains}
 use Rattle.area.specs.declared.Area.{Area}
@@ -23,29 +23,29 @@ tests s = let a = s .args in enterTests (a .self) (a .train) (a .route) (a .spee
 abbrev new : tie.Start → Area
 new s = let a = s .args in afterEnter (a .self) (a .train) (a .route) (a .speed)
 
-test-passed : (c : tie.Else1) (n : ℕ) → conditionOf n (tests (c .before .before .before)) ≡ false
-test-passed c n = passed-by (tests (c .before .before .before)) (c .before .enter-refusal .ensures .0) refl (c .if1 .left) n
+-- the record that the tests are of
+abbrev start : tie.After-enter-refusal → tie.Start
+start c = c .before .before .before .before .before
 
--- every test is passed before the record is read
-abbrev passed : tie.After-before2 → tie.Else1
-passed c = c .before .before .before
+refusal : (c : tie.After-enter-refusal) → c .enter-refusal .result .number ≡ firstOf (tests (start c)) .number
+refusal c = rw (c .before .before .before .before .sound .ensures) at (c .enter-refusal .ensures .0)
 
-enter-refusal-requires : tie.Need-enter-refusal-requires
-enter-refusal-requires c κs = c .sound .ensures
+test-passed : (c : tie.Else1) (n : ℕ) → conditionOf n (tests (start (c .before))) ≡ false
+test-passed c n = passed-by (tests (start (c .before))) (refusal (c .before)) refl (c .if1 .left) n
 
 returns : tie.Need-returns
 unfolding enterCall
 returns c =
     let n = c .before .before in
-    let s = n .before .before in
-    c .answered .ensures ∙ refused-by (tests s) (n .enter-refusal .ensures .0) (new s) (s .args .self) refl (c .before .if1 .taken)
+    let s = start n in
+    c .answered .ensures ∙ refused-by (tests s) (refusal n) (new s) (s .args .self) refl (c .before .if1 .taken)
 
 cast-t : tie.Need-cast-t
-cast-t c = let h = within mostTrains (c .before .before .before .args .train) (test-passed c 13) in omega arith
+cast-t c = let h = within mostTrains (start (c .before) .args .train) (test-passed c 13) in omega arith
 
 cast-r : tie.Need-cast-r
 cast-r c =
-    let a = c .before .before .before .args in
+    let a = start (c .before) .args in
     let fits : Fits w8 (a .self .tables .routes) = search needs in
     let h = within (a .self .tables .routes) (a .route) (test-passed c 16) in
     omega arith
@@ -55,12 +55,12 @@ unfolding enterCall afterEnter
 returns-2 c =
     let entered = c .before .before in
     let taken = entered .before in
-    let p = passed (taken .before) in
+    let p = taken .before in
     let n = p .before in
-    let s = n .before .before in
+    let s = start n in
     let first = n .enter-refusal .ensures .1 (p .if1 .left) in
     c .answered2 .ensures
-    ∙ finished-by (tests s) (n .enter-refusal .ensures .0) (new s) (s .args .self) refl (p .if1 .left)
+    ∙ finished-by (tests s) (refusal n) (new s) (s .args .self) refl (p .if1 .left)
     (simp (c .before .with-train .ensures, entered .entered-train .ensures, taken .taken-all .ensures, first))
 
 pub enter-spec : {M : Type 1} → statement M
@@ -68,7 +68,7 @@ enter-spec =
     tie.close
     (tie.spec
     (λ c κs. search needs)
-    enter-refusal-requires
+    (λ c κs. search needs)
     (λ c κs. search needs)
     returns
     cast-t

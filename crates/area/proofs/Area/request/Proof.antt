@@ -1,15 +1,22 @@
 -- The number of the first test that holds decides the outcome; where none does, the contract of the requests makes the record.
-use mathlib.Core.Path.{_≡_, refl, _∙_}
+use Prim.Native.Nat.{ℕ}
+use mathlib.Core.Path.{_≡_, refl, ap, _∙_}
 use borrow.Author.Needs.{needs}
 use Rattle.lists.specs.Tests.{firstOf}
+use Rattle.lists.specs.Words.{at}
+use Rattle.lists.proofs.Numbered.{made-beside}
 use Rattle.trains.specs.Due.{requestDue}
+use Rattle.trains.specs.Spot.{spotOf}
+use Rattle.trains.specs.Cycle.{requestedAt, requested}
+use Rattle.standing.specs.Spots.{noSpot}
+use Rattle.area.specs.declared.Examined.{Examined}
 use Rattle.area.specs.Calls.{stepTests, afterRequest, requestCall}
 use Rattle.area.proofs.Laws.{refused-by, finished-by}
 use Rattle.area.proofs.Area.request.Statement.{statement}
 use Rattle.area.proofs.Area.request.Tie as tie
 
 refusal : (c : tie.After-step-refusal) → c .step-refusal .result ≡ firstOf (stepTests requestDue (c .before .before .args .self)) .number
-refusal c = rw (c .before .sound .ensures) at (c .step-refusal .ensures)
+refusal c = rw (ap (λ (x : Examined). x .ok) (c .before .examined .ensures)) at (c .step-refusal .ensures)
 
 returns : tie.Need-returns
 unfolding requestCall
@@ -19,13 +26,15 @@ returns c =
     c .answered .ensures ∙ refused-by (stepTests requestDue a) (refusal n) (afterRequest a) a refl (c .before .if1 .taken)
 
 returns-2 : tie.Need-returns-2
-unfolding requestCall afterRequest
+unfolding requestCall afterRequest requested
 returns-2 c =
-    let passed = c .before .before .before .before .before in
+    let passed = c .before .before .before .before .before .before in
     let n = passed .before in
     let a = n .before .before .args .self in
+    let spots = ap (λ (x : Examined). x .spots) (n .before .examined .ensures) in
     c .answered2 .ensures
-    ∙ finished-by (stepTests requestDue a) (refusal n) (afterRequest a) a refl (passed .if1 .left) (simp (c .before .requested-all .ensures))
+    ∙ finished-by (stepTests requestDue a) (refusal n) (afterRequest a) a refl (passed .if1 .left)
+    (simp (made-beside noSpot (spotOf (a .tables) (at (a .allocations))) (λ (t : ℕ). requestedAt) (a .trains) spots (c .before .requested-all .ensures)))
 
 pub request-spec : {M : Type 1} → statement M
 request-spec =

@@ -1,41 +1,11 @@
--- Each part that the code finds broken makes the conjunction false; the tables' part, passed, gives the trains' part what it asks for.
-use mathlib.Core.Path.{_≡_}
-use mathlib.Core.Bool.{true}
-use borrow.Author.Tests.{lt-leb, le-leb}
+use mathlib.Core.Path.{ap}
 use borrow.Author.Needs.{needs}
-use Rattle.lists.proofs.Cases.{test-fails, test-holds}
-use Rattle.tables.specs.Rules.{meets}
-use Rattle.tables.proofs.Consistency.{consistent, meets-iff}
-use Rattle.area.specs.Sound.{sound}
+use Rattle.area.specs.declared.Examined.{Examined}
 use Rattle.area.proofs.Area.sound.Statement.{statement}
 use Rattle.area.proofs.Area.sound.Tie as tie
 
-met : (c : tie.Else1) → meets (c .before .before .before .args .self .tables) ≡ true
-met c = test-holds (c .before .tables-meet .ensures) (c .if1 .left)
-
 returns : tie.Need-returns
-unfolding sound
-returns c = rw (test-fails (c .before .tables-meet .ensures) (c .if1 .taken))
-
-returns-2 : tie.Need-returns-2
-unfolding sound
-returns-2 c = rw (met (c .before), lt-leb _ _ (c .if2 .taken))
-
-trains-sound-requires : tie.Need-trains-sound-requires
-trains-sound-requires c κs = consistent _ (meets-iff _ .0 (met (c .before .before .before)))
-
-returns-3 : tie.Need-returns-3
-unfolding sound
-returns-3 c =
-    let d = c .before .before .before .before in
-    rw (met (d .before), le-leb _ _ (d .if2 .left), test-fails (c .before .trains-sound .ensures) (c .if3 .taken))
-
-returns-4 : tie.Need-returns-4
-unfolding sound
-returns-4 c =
-    let e = c .before in
-    let d = e .before .before .before .before in
-    rw (met (d .before), le-leb _ _ (d .if2 .left), test-holds (e .before .trains-sound .ensures) (e .if3 .left)) (c .allocations-sound .ensures)
+returns c = ap (λ (x : Examined). x .ok) (c .examined .ensures)
 
 pub sound-spec : {M : Type 1} → statement M
-sound-spec = tie.close (tie.spec (λ c κs. search needs) returns returns-2 trains-sound-requires returns-3 (λ c κs. search needs) returns-4)
+sound-spec = tie.close (tie.spec (λ c κs. search needs) returns)

@@ -1,6 +1,6 @@
 -- Each test that the code has passed is false in the list, and the one that it answers with is true.
 use mathlib.Core.Path.{_≡_, sym, _∙_}
-use mathlib.Core.Bool.{true, false, _&&_}
+use mathlib.Core.Bool.{true, false, not, _&&_}
 use native.Mathlib.Omega.{arith}
 use Prim.Native.Nat.{_<_}
 use borrow.Author.Tests.{lt-ltb}
@@ -9,14 +9,12 @@ use Rattle.lists.proofs.Cases.{test-fails, test-holds}
 use Rattle.lists.proofs.Refusals.{outside, inside}
 use Rattle.trains.specs.declared.Train.{Train}
 use Rattle.trains.specs.Train.{mostTrains, trainAt, isOn, ownOf}
-use Rattle.trains.specs.EnterLeave.{isExit, isLast}
-use Rattle.area.specs.Sound.{sound}
-use Rattle.area.specs.Calls.{noTrain}
-use Rattle.area.proofs.leave_refusal.Statement.{statement}
-use Rattle.area.proofs.leave_refusal.Tie as tie
+use Rattle.trains.specs.EnterLeave.{isExit, isLast, noTrain}
+use Rattle.enter_leave.proofs.leave_refusal.Statement.{statement}
+use Rattle.enter_leave.proofs.leave_refusal.Tie as tie
 
-is-sound : (c : tie.Else1) → sound (c .before .args .area) ≡ true
-is-sound c = test-holds (c .before .pre) (c .if1 .left)
+is-sound : (c : tie.Else1) → not (c .before .args .ok) ≡ false
+is-sound c = c .if1 .left
 
 abbrev start : tie.Else2 → tie.Start
 start c = c .before .before
@@ -26,30 +24,30 @@ numbered c = sym (outside mostTrains (start c .args .train)) ∙ c .if2 .left
 
 -- the train, once it is read
 abbrev known : tie.After-train-at → tie.Else2
-known c = c .before .before
+known c = c .before
 
 abbrev train : tie.Else2 → Train
-train c = trainAt (start c .args .area .trains) (start c .args .train)
+train c = trainAt (start c .args .trains) (start c .args .train)
 
 is-on : (c : tie.Else3) → isOn (train (known (c .before .before))) ≡ true
 is-on c = let on : 0 < c .before .before .train-at .result .route = omega (arith, c .if3 .left) in rw (c .before .before .train-at .ensures) at (lt-ltb _ _ on)
 
 abbrev tried : tie.After-at-exit → tie.Else3
-tried c = c .before .before .before .before .before
+tried c = c .before .before .before .before
 
 exit-found :
-    (c : tie.After-at-exit) → let e = known (tried c .before .before) in let T = start e .args .area .tables in
+    (c : tie.After-at-exit) → let e = known (tried c .before .before) in let T = start e .args .t2 in
     c .at-exit .result ≡ (isLast T (train e) && isExit T (ownOf T (train e)))
 exit-found c = rw (tried c .before .before .train-at .ensures) at (c .at-exit .ensures)
 
 returns : tie.Need-returns
-returns c = rw (test-fails (c .before .pre) (c .if1 .taken))
+returns c = rw (c .if1 .taken)
 
 returns-2 : tie.Need-returns-2
 returns-2 c = rw (is-sound (c .before), sym (outside mostTrains (c .before .before .args .train)) ∙ c .if2 .taken)
 
 cast-train-at : tie.Need-cast-train-at
-cast-train-at c = let h = inside mostTrains (start (c .before) .args .train) (c .before .if2 .left) in omega arith
+cast-train-at c = let h = inside mostTrains (start c .args .train) (c .if2 .left) in omega arith
 
 returns-3 : tie.Need-returns-3
 returns-3 c =

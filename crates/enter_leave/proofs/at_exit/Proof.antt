@@ -1,6 +1,6 @@
 use borrow.Author.Needs.{needs}
-use Rattle.area.proofs.at_exit.Statement.{statement}
-use Rattle.area.proofs.at_exit.Tie as tie
+use Rattle.enter_leave.proofs.at_exit.Statement.{statement}
+use Rattle.enter_leave.proofs.at_exit.Tie as tie
 
 returns : tie.Need-returns
 returns c =

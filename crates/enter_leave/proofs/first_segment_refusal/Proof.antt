@@ -7,8 +7,8 @@ use denote.Ref.{now}
 use borrow.Author.Tests.{eq-eqb, ne-eqb, lt-ltb, le-ltb}
 use borrow.Author.Needs.{needs}
 use Rattle.lists.specs.Words.{at}
-use Rattle.area.proofs.first_segment_refusal.Statement.{statement}
-use Rattle.area.proofs.first_segment_refusal.Tie as tie
+use Rattle.enter_leave.proofs.first_segment_refusal.Statement.{statement}
+use Rattle.enter_leave.proofs.first_segment_refusal.Tie as tie
 
 entry : (c : tie.Else1) → let a = c .before .before .before .args in eqb (at (now (a .flags)) (a .first) % 2) 1 ≡ true
 entry c = rw (c .before .entry-u8 .ensures) at (eq-eqb _ _ (c .if1 .left))

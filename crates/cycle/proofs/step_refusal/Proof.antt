@@ -1,6 +1,6 @@
 use borrow.Author.Tests.{eq-eqb, ne-eqb, not-true, not-false}
-use Rattle.area.proofs.step_refusal.Statement.{statement}
-use Rattle.area.proofs.step_refusal.Tie as tie
+use Rattle.cycle.proofs.step_refusal.Statement.{statement}
+use Rattle.cycle.proofs.step_refusal.Tie as tie
 
 returns : tie.Need-returns
 returns c = rw (not-true (c .before .args .ok) (c .if1 .taken))

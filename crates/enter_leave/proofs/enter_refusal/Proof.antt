@@ -1,25 +1,23 @@
 -- Each test that the code has passed is false in the list, and the one that it answers with is true; the tests of the first
 -- segment decide where all before them are passed.
 use mathlib.Core.Path.{_≡_, sym, _∙_}
-use mathlib.Core.Bool.{true, false}
+use mathlib.Core.Bool.{false, not}
 use native.Mathlib.Omega.{arith}
 use mir.Syntax.{w8}
 use mir.Val.{Fits}
 use borrow.Author.Tests.{lt-ltb, le-ltb}
 use borrow.Author.Needs.{needs}
-use Rattle.lists.proofs.Cases.{test-fails, test-holds}
 use Rattle.lists.proofs.Refusals.{outside, inside}
 use Rattle.trains.specs.Train.{mostTrains, trainAt, isOn}
-use Rattle.area.specs.Sound.{sound}
-use Rattle.area.specs.Calls.{noTrain, noRoute}
-use Rattle.area.proofs.enter_refusal.Statement.{statement}
-use Rattle.area.proofs.enter_refusal.Tie as tie
+use Rattle.trains.specs.EnterLeave.{noTrain, noRoute}
+use Rattle.enter_leave.proofs.enter_refusal.Statement.{statement}
+use Rattle.enter_leave.proofs.enter_refusal.Tie as tie
 
-routes-fit : (s : tie.Start) → Fits w8 (s .args .area .tables .routes)
+routes-fit : (s : tie.Start) → Fits w8 (s .args .t2 .routes)
 routes-fit s = search needs
 
-is-sound : (c : tie.Else1) → sound (c .before .args .area) ≡ true
-is-sound c = test-holds (c .before .pre) (c .if1 .left)
+is-sound : (c : tie.Else1) → not (c .before .args .ok) ≡ false
+is-sound c = c .if1 .left
 
 abbrev start : tie.Else2 → tie.Start
 start c = c .before .before
@@ -28,32 +26,32 @@ numbered : (c : tie.Else2) → noTrain (start c .args .train) ≡ false
 numbered c = sym (outside mostTrains (start c .args .train)) ∙ c .if2 .left
 
 abbrev read : tie.After-train-at → tie.Else2
-read c = c .before .before
+read c = c .before
 
 abbrev known : tie.Else3 → tie.Else2
 known c = read (c .before .before)
 
-is-off : (c : tie.Else3) → let a = start (known c) .args in isOn (trainAt (a .area .trains) (a .train)) ≡ false
+is-off : (c : tie.Else3) → let a = start (known c) .args in isOn (trainAt (a .trains) (a .train)) ≡ false
 is-off c = rw (c .before .before .train-at .ensures) at (le-ltb _ _ (c .if3 .left))
 
 abbrev routing : tie.Else4 → tie.Else3
-routing c = c .before .before
+routing c = c .before
 
-routed : (c : tie.Else4) → let a = start (known (routing c)) .args in noRoute (a .area .tables) (a .route) ≡ false
-routed c = let a = start (known (routing c)) .args in sym (outside (a .area .tables .routes) (a .route)) ∙ c .if4 .left
+routed : (c : tie.Else4) → let a = start (known (routing c)) .args in noRoute (a .t2) (a .route) ≡ false
+routed c = let a = start (known (routing c)) .args in sym (outside (a .t2 .routes) (a .route)) ∙ c .if4 .left
 
 abbrev first : tie.After-first-segment-refusal → tie.After-segment-at
-first c = c .before .before .before .before .before .before
+first c = c .before .before .before .before .before
 
 returns : tie.Need-returns
-returns c = (rw (test-fails (c .before .pre) (c .if1 .taken)), λ z. absurd (omega arith))
+returns c = (rw (c .if1 .taken), λ z. absurd (omega arith))
 
 returns-2 : tie.Need-returns-2
 returns-2 c =
     (rw (is-sound (c .before), sym (outside mostTrains (c .before .before .args .train)) ∙ c .if2 .taken), λ z. absurd (omega arith))
 
 cast-train-at : tie.Need-cast-train-at
-cast-train-at c = let h = inside mostTrains (start (c .before) .args .train) (c .before .if2 .left) in omega arith
+cast-train-at c = let h = inside mostTrains (start c .args .train) (c .if2 .left) in omega arith
 
 returns-3 : tie.Need-returns-3
 returns-3 c =
@@ -62,16 +60,16 @@ returns-3 c =
 
 returns-4 : tie.Need-returns-4
 returns-4 c =
-    let d = c .before .before in
+    let d = c .before in
     let a = start (known d) .args in
-    let none = sym (outside (a .area .tables .routes) (a .route)) ∙ c .if4 .taken in
+    let none = sym (outside (a .t2 .routes) (a .route)) ∙ c .if4 .taken in
     (rw (is-sound (known d .before), numbered (known d), is-off d, none), λ z. absurd (omega arith))
 
 cast-segment-at : tie.Need-cast-segment-at
 cast-segment-at c =
     let d = c .before .before in
     let s = start (known (routing d)) in
-    let h = inside (s .args .area .tables .routes) (s .args .route) (d .if4 .left) in
+    let h = inside (s .args .t2 .routes) (s .args .route) (d .if4 .left) in
     omega (arith, routes-fit s)
 
 returns-5 : tie.Need-returns-5

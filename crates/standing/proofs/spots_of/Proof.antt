@@ -1,0 +1,77 @@
+-- The loop fills the array place by place: each turn makes the spot of one train.
+use Prim.Native.Nat.{_-_}
+use native.Mathlib.Omega.{arith}
+use borrow.Author.Needs.{needs}
+use Rattle.lists.specs.Words.{at}
+use Rattle.lists.proofs.Numbered.{long-of}
+use Rattle.lists.proofs.Loops.{Made, make-begin, make-more, make-over}
+use Rattle.trains.specs.Spot.{spotIn}
+use Rattle.standing.proofs.spots_of.Statement.{statement}
+use Rattle.standing.proofs.spots_of.Tie as tie
+
+abbrev Inv-loop : tie.InvT-loop
+Inv-loop routebytes lengths limits allocations margin trains new₀ i₀ new i = Made 24 (spotIn routebytes lengths limits margin (at allocations)) trains new₀ i new
+
+abbrev μ-loop : tie.MeasureT-loop
+μ-loop routebytes lengths limits allocations margin trains new₀ i₀ new i = 24 - i
+
+no-spot-requires : tie.Need-no-spot-requires Inv-loop μ-loop
+no-spot-requires c κs = search needs
+
+loop-holds : tie.Need-loop-holds Inv-loop μ-loop
+loop-holds c = make-begin (search long-of) (search needs)
+
+mul-x : tie.Need-mul-x Inv-loop μ-loop
+mul-x c = omega arith
+
+array-copy-out-x : tie.Need-array-copy-out-x Inv-loop μ-loop
+array-copy-out-x c = omega arith
+
+add-spot-of : tie.Need-add-spot-of Inv-loop μ-loop
+add-spot-of c = omega arith
+
+cast-spot-of : tie.Need-cast-spot-of Inv-loop μ-loop
+cast-spot-of c = omega arith
+
+spot-of-requires : tie.Need-spot-of-requires Inv-loop μ-loop
+spot-of-requires c κs = search needs
+
+mul-new : tie.Need-mul-new Inv-loop μ-loop
+mul-new c = omega arith
+
+array-set-from-new : tie.Need-array-set-from-new Inv-loop μ-loop
+array-set-from-new c = omega arith
+
+add-i : tie.Need-add-i Inv-loop μ-loop
+add-i c = omega arith
+
+loop-less : tie.Need-loop-less Inv-loop μ-loop
+loop-less c = omega arith
+
+loop-again : tie.Need-loop-again Inv-loop μ-loop
+loop-again c =
+    let l = c .before .before in
+    make-more (l .before .loop .inv) _ (l .loop-test .taken) (c .spot-of .ensures)
+
+returns : tie.Need-returns Inv-loop μ-loop
+returns c = make-over (c .before .loop .inv) (c .loop-test .left)
+
+pub spots-of-spec : {M : Type 1} → statement M
+spots-of-spec =
+    tie.close
+    (tie.spec
+    Inv-loop
+    μ-loop
+    no-spot-requires
+    loop-holds
+    mul-x
+    array-copy-out-x
+    add-spot-of
+    cast-spot-of
+    spot-of-requires
+    mul-new
+    array-set-from-new
+    add-i
+    loop-less
+    loop-again
+    returns)
