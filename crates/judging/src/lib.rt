@@ -73,15 +73,22 @@ fn judge(file: &[u8], t: Tables) -> Reading
     if 0 < record {
         return refused(6, record as u16);
     }
-    let unjoined = rules::first_unjoined(&t.next, &t.previous, t.segments);
+    let unjoined = rules::first_breaking(7, &t.limits, &t.next, &t.previous, t.braking, t.segments);
     if 0 < unjoined {
         return refused(7, unjoined as u16);
     }
-    let unordered = rules::first_unordered(&t.next, t.segments);
+    let unordered = rules::first_breaking(
+        8,
+        &t.limits,
+        &t.next,
+        &t.previous,
+        t.braking,
+        t.segments,
+    );
     if 0 < unordered {
         return refused(8, unordered as u16);
     }
-    let dropping = rules::first_dropping(&t.limits, &t.next, t.braking, t.segments);
+    let dropping = rules::first_breaking(9, &t.limits, &t.next, &t.previous, t.braking, t.segments);
     if 0 < dropping {
         return refused(9, dropping as u16);
     }

@@ -7,6 +7,7 @@ ghost use Rattle.braking.specs.Braking.{S};
 ghost use Rattle.tables.specs.Bounds.{mostSegments};
 ghost use Rattle.tables.specs.Tables.{rowOf};
 ghost use Rattle.tables.specs.Rules.{headerIn, linksOk, usedOk, unusedOk, rowOk, matched, jointIn, greater, orderIn, gentle, dropIn, meets};
+ghost use Rattle.rules.specs.Scan.{segmentMeets};
 use lists::entry_u16;
 use lookups::first_link;
 use lookups::links_to;
@@ -115,7 +116,7 @@ fn first_bad_segment<'a>(
     0
 }
 
-// ---- rules 7 to 9: the least segment of 1 to n that breaks the rule, 0 where none does
+// ---- rules 7 to 9
 fn is_matched(back: &[u8; 124], link: u8, s: u8) -> bool
     ensures { λ r. ⌜ r ≡ matched (now (back .entry)) link s ⌝ }
 {
@@ -131,19 +132,6 @@ fn joint_ok<'a>(next: &'a [u8; 124], previous: &'a [u8; 124], s: u8) -> bool
         & is_matched(next, second_link(previous, s), s)
 }
 
-pub fn first_unjoined<'a>(next: &'a [u8; 124], previous: &'a [u8; 124], n: u8) -> u8
-    ensures { λ r. ⌜ r ≡ firstFailing n (jointIn (now (next .entry)) (now (previous .entry))) ⌝ }
-{
-    let mut s: u8 = 0;
-    while s < n {
-        s += 1;
-        if !joint_ok(next, previous, s) {
-            return s;
-        }
-    }
-    0
-}
-
 fn is_greater(s: u8, link: u8) -> bool
     ensures { λ r. ⌜ r ≡ greater s link ⌝ }
 {
@@ -154,19 +142,6 @@ fn order_ok(next: &[u8; 124], s: u8) -> bool
     ensures { λ r. ⌜ r ≡ orderIn (now (next .entry)) s ⌝ }
 {
     is_greater(s, first_link(next, s)) & is_greater(s, second_link(next, s))
-}
-
-pub fn first_unordered(next: &[u8; 124], n: u8) -> u8
-    ensures { λ r. ⌜ r ≡ firstFailing n (orderIn (now (next .entry))) ⌝ }
-{
-    let mut s: u8 = 0;
-    while s < n {
-        s += 1;
-        if !order_ok(next, s) {
-            return s;
-        }
-    }
-    0
 }
 
 // The speed lost from one limit to the next is at most one cycle's braking.
@@ -192,13 +167,40 @@ fn drop_ok<'a>(limits: &'a [u16; 62], next: &'a [u8; 124], braking: u16, s: u8) 
         & is_gentle(limits, braking, s, second_link(next, s))
 }
 
-pub fn first_dropping<'a>(limits: &'a [u16; 62], next: &'a [u8; 124], braking: u16, n: u8) -> u8
-    ensures { λ r. ⌜ r ≡ firstFailing n (dropIn (now (limits .entry)) (now (next .entry)) braking) ⌝ }
+fn segment_meets<'a>(
+    rule: u8,
+    limits: &'a [u16; 62],
+    next: &'a [u8; 124],
+    previous: &'a [u8; 124],
+    braking: u16,
+    s: u8,
+) -> bool
+    ensures { λ r. ⌜ r ≡ segmentMeets rule (now (limits .entry)) (now (next .entry)) (now (previous .entry)) braking s ⌝ }
+{
+    if rule == 7 {
+        return joint_ok(next, previous, s);
+    }
+    if rule == 8 {
+        return order_ok(next, s);
+    }
+    drop_ok(limits, next, braking, s)
+}
+
+// The least segment of 1 to n that breaks rule 7, 8 or 9, 0 where none does.
+pub fn first_breaking<'a>(
+    rule: u8,
+    limits: &'a [u16; 62],
+    next: &'a [u8; 124],
+    previous: &'a [u8; 124],
+    braking: u16,
+    n: u8,
+) -> u8
+    ensures { λ r. ⌜ r ≡ firstFailing n (segmentMeets rule (now (limits .entry)) (now (next .entry)) (now (previous .entry)) braking) ⌝ }
 {
     let mut s: u8 = 0;
     while s < n {
         s += 1;
-        if !drop_ok(limits, next, braking, s) {
+        if !segment_meets(rule, limits, next, previous, braking, s) {
             return s;
         }
     }
@@ -223,9 +225,9 @@ pub fn tables_meet(t: Tables) -> bool
         t.gmax,
         t.margin,
     );
-    let unjoined = first_unjoined(&t.next, &t.previous, t.segments);
-    let unordered = first_unordered(&t.next, t.segments);
-    let dropping = first_dropping(&t.limits, &t.next, t.braking, t.segments);
+    let unjoined = first_breaking(7, &t.limits, &t.next, &t.previous, t.braking, t.segments);
+    let unordered = first_breaking(8, &t.limits, &t.next, &t.previous, t.braking, t.segments);
+    let dropping = first_breaking(9, &t.limits, &t.next, &t.previous, t.braking, t.segments);
     let route = routes::first_bad_route(&t.next, &t.routebytes, t.segments, t.routes);
     margin & (segment == 0) & (unjoined == 0) & (unordered == 0) & (dropping == 0) & (route == 0)
 }

@@ -52,22 +52,22 @@ left3 : (c : tie.Else3) → After 3 (start3 c)
 left3 c = leave-none (c .before .first-bad-record .ensures) (left2 (c .before .before)) (c .if3 .left)
 
 abbrev start4 : tie.Else4 → tie.Start
-start4 c = start3 (c .before .before .before .before .before)
+start4 c = start3 (c .before .before .before .before .before .before)
 
 left4 : (c : tie.Else4) → After 4 (start4 c)
-left4 c = leave-none (c .before .first-unjoined .ensures) (left3 (c .before .before .before .before .before)) (c .if4 .left)
+left4 c = leave-none (c .before .first-breaking .ensures) (left3 (c .before .before .before .before .before .before)) (c .if4 .left)
 
 abbrev start5 : tie.Else5 → tie.Start
-start5 c = start4 (c .before .before .before .before)
+start5 c = start4 (c .before .before .before .before .before .before)
 
 left5 : (c : tie.Else5) → After 5 (start5 c)
-left5 c = leave-none (c .before .first-unordered .ensures) (left4 (c .before .before .before .before)) (c .if5 .left)
+left5 c = leave-none (c .before .first-breaking2 .ensures) (left4 (c .before .before .before .before .before .before)) (c .if5 .left)
 
 abbrev start6 : tie.Else6 → tie.Start
-start6 c = start5 (c .before .before .before .before .before)
+start6 c = start5 (c .before .before .before .before .before .before)
 
 left6 : (c : tie.Else6) → After 6 (start6 c)
-left6 c = leave-none (c .before .first-dropping .ensures) (left5 (c .before .before .before .before .before)) (c .if6 .left)
+left6 c = leave-none (c .before .first-breaking3 .ensures) (left5 (c .before .before .before .before .before .before)) (c .if6 .left)
 
 abbrev start7 : tie.Else7 → tie.Start
 start7 c = start6 (c .before .before .before .before .before)
@@ -109,8 +109,8 @@ refused-requires-3 c κs = search needs
 returns-3 : tie.Need-returns-3
 returns-3 c = c .refused3 .ensures ∙ refuse-number (c .before .before .first-bad-record .ensures) (left2 (c .before .before .before)) (c .before .if3 .taken)
 
-first-unjoined-requires : tie.Need-first-unjoined-requires
-first-unjoined-requires c κs = search needs
+first-breaking-requires : tie.Need-first-breaking-requires
+first-breaking-requires c κs = search needs
 
 cast-refused-2 : tie.Need-cast-refused-2
 cast-refused-2 c = search needs
@@ -119,10 +119,10 @@ refused-requires-4 : tie.Need-refused-requires-4
 refused-requires-4 c κs = search needs
 
 returns-4 : tie.Need-returns-4
-returns-4 c = c .refused4 .ensures ∙ refuse-number (c .before .before .first-unjoined .ensures) (left3 (c .before .before .before .before .before .before)) (c .before .if4 .taken)
+returns-4 c = c .refused4 .ensures ∙ refuse-number (c .before .before .first-breaking .ensures) (left3 (c .before .before .before .before .before .before .before)) (c .before .if4 .taken)
 
-first-unordered-requires : tie.Need-first-unordered-requires
-first-unordered-requires c κs = search needs
+first-breaking-requires-2 : tie.Need-first-breaking-requires-2
+first-breaking-requires-2 c κs = search needs
 
 cast-refused-3 : tie.Need-cast-refused-3
 cast-refused-3 c = search needs
@@ -131,10 +131,10 @@ refused-requires-5 : tie.Need-refused-requires-5
 refused-requires-5 c κs = search needs
 
 returns-5 : tie.Need-returns-5
-returns-5 c = c .refused5 .ensures ∙ refuse-number (c .before .before .first-unordered .ensures) (left4 (c .before .before .before .before .before)) (c .before .if5 .taken)
+returns-5 c = c .refused5 .ensures ∙ refuse-number (c .before .before .first-breaking2 .ensures) (left4 (c .before .before .before .before .before .before .before)) (c .before .if5 .taken)
 
-first-dropping-requires : tie.Need-first-dropping-requires
-first-dropping-requires c κs = search needs
+first-breaking-requires-3 : tie.Need-first-breaking-requires-3
+first-breaking-requires-3 c κs = search needs
 
 cast-refused-4 : tie.Need-cast-refused-4
 cast-refused-4 c = search needs
@@ -143,7 +143,7 @@ refused-requires-6 : tie.Need-refused-requires-6
 refused-requires-6 c κs = search needs
 
 returns-6 : tie.Need-returns-6
-returns-6 c = c .refused6 .ensures ∙ refuse-number (c .before .before .first-dropping .ensures) (left5 (c .before .before .before .before .before .before)) (c .before .if6 .taken)
+returns-6 c = c .refused6 .ensures ∙ refuse-number (c .before .before .first-breaking3 .ensures) (left5 (c .before .before .before .before .before .before .before)) (c .before .if6 .taken)
 
 first-bad-route-requires : tie.Need-first-bad-route-requires
 first-bad-route-requires c κs = search needs
@@ -175,15 +175,15 @@ judge-spec =
     cast-refused
     refused-requires-3
     returns-3
-    first-unjoined-requires
+    first-breaking-requires
     cast-refused-2
     refused-requires-4
     returns-4
-    first-unordered-requires
+    first-breaking-requires-2
     cast-refused-3
     refused-requires-5
     returns-5
-    first-dropping-requires
+    first-breaking-requires-3
     cast-refused-4
     refused-requires-6
     returns-6
