@@ -1,14 +1,18 @@
 -- A call's outcome by the number of the first of its tests that holds: a refusal where it is not 0, and the finished step where it is.
 use Prim.Native.Nat.{ℕ}
 use mathlib.Core.Path.{_≡_, sym, ap, _∙_}
-use mathlib.Core.Bool.{true, false}
+use mathlib.Core.Bool.{Bool, true, false}
 use mathlib.Core.List.{List}
 use borrow.Author.Tests.{not-true, eq-eqb}
 use Rattle.lists.specs.Tests.{Test, firstOf, conditionOf}
 use Rattle.lists.proofs.Cases.{by-test}
 use Rattle.lists.proofs.Refusals.{passed, absent, first-none, first-number, placeless, first-placeless}
+use Rattle.trains.specs.declared.Spot.{Spot}
+use Rattle.standing.specs.Spots.{spotsOf}
 use Rattle.answers.specs.Answers.{answerOf}
 use Rattle.area.specs.declared.Area.{Area}
+use Rattle.area.specs.declared.Examined.{Examined}
+use Rattle.area.specs.Sound.{sound}
 use Rattle.area.specs.Calls.{outcome}
 
 module _ (tests : List Test) {number : ℕ} (first : number ≡ firstOf tests .number) where
@@ -30,3 +34,9 @@ module _ (tests : List Test) {number : ℕ} (first : number ≡ firstOf tests .n
     pub finished-by :
         {made : Area} → absent 0 tests ≡ true → number ≡ 0 → made ≡ new → record { answer = answerOf 0 0; area = made } ≡ outcome tests new old
     finished-by out zero same = rw (first-none tests (none-holds out zero), same)
+
+-- what an examination finds, by its two parts
+pub found-by :
+    (a : Area) {ok : Bool} {spots : List Spot} → ok ≡ sound a → spots ≡ spotsOf (a .tables) (a .allocations) (a .trains)
+    → _≡_ {A = Examined} (record { ok = ok; spots = spots }) (record { ok = sound a; spots = spotsOf (a .tables) (a .allocations) (a .trains) })
+found-by a e f = rw (e, f)

@@ -47,40 +47,14 @@ fn answered(area: Area, number: u8) -> Outcome
 }
 
 impl Area {
-    // Each condition of a sound record in turn, by where its trains stand.
-    fn sound_at(self, spots: [Spot; 24]) -> bool
-        requires { ⌜ spots ≡ spotsOf (self .tables) (self .allocations) (self .trains) ⌝ }
-        ensures { λ r. ⌜ r ≡ sound self ⌝ }
-    {
-        let tables = self.tables;
-        if !rules::tables_meet(tables) {
-            return false;
-        }
-        let due = self.due;
-        if 3 < due {
-            return false;
-        }
-        let trains = self.trains;
-        if !soundness::trains_sound(
-            tables.routes,
-            tables.braking,
-            tables.margin,
-            due,
-            spots,
-            trains,
-        ) {
-            return false;
-        }
-        let allocations = self.allocations;
-        soundness::allocations_sound(tables, allocations, trains)
-    }
-
+    // Each condition of a sound record in turn.
     fn examined(self) -> Examined
         ensures { λ r. ⌜ r ≡ record { ok = sound self; spots = spotsOf (self .tables) (self .allocations) (self .trains) } ⌝ }
     {
         let tables = self.tables;
         let allocations = self.allocations;
         let trains = self.trains;
+        let due = self.due;
         let spots = standing::spots_of(
             &tables.routebytes,
             &tables.lengths,
@@ -89,7 +63,28 @@ impl Area {
             tables.margin,
             trains,
         );
-        let ok = self.sound_at(spots);
+        if !rules::tables_meet(tables) {
+            return Examined { ok: false, spots };
+        }
+        if 3 < due {
+            return Examined { ok: false, spots };
+        }
+        if !soundness::trains_sound(
+            tables.routes,
+            tables.braking,
+            tables.margin,
+            due,
+            spots,
+            trains,
+        ) {
+            return Examined { ok: false, spots };
+        }
+        let ok = soundness::allocations_sound(
+            &tables.routebytes,
+            tables.segments,
+            allocations,
+            trains,
+        );
         Examined { ok, spots }
     }
 

@@ -205,6 +205,17 @@ module _ {A B : Type 0} where
   filled-suc f (suc i) (x ∷ l) (y ∷ old) d h =
       ap (λ (r : List B). f 1 x ∷ r) (filled-suc (λ (k : ℕ). f (suc k)) i l old d (le-of-suc-le-suc h))
 
+  -- no store at the index i, where what f makes of entry i + 1 stands already
+  filled-keep :
+      (f : ℕ → A → B) (i : ℕ) (l : List A) (old : List B) (d : A) (b : B) → i < length l → i < length old
+      → getD old i b ≡ f (suc i) (getD l i d) → filled f i l old ≡ filled f (suc i) l old
+  unfolding filled
+  filled-keep f i [] old d b h g e = absurd (not-suc-le-zero h)
+  filled-keep f i (x ∷ l) [] d b h g e = absurd (not-suc-le-zero g)
+  filled-keep f zero (x ∷ l) (y ∷ old) d b h g e = ap (λ (z : B). z ∷ old) e
+  filled-keep f (suc i) (x ∷ l) (y ∷ old) d b h g e =
+      ap (λ (r : List B). f 1 x ∷ r) (filled-keep (λ (k : ℕ). f (suc k)) i l old d b (le-of-suc-le-suc h) (le-of-suc-le-suc g) e)
+
   -- a store at the index i of what f makes of entry i + 1
   fill-step : (f : ℕ → A → B) (i : ℕ) (l : List A) (old new : List B) (d : A) (r : B) → new ≡ filled f i l old → i < length l → r ≡ f (i + 1) (getD l i d) → set new i r ≡ filled f (i + 1) l old
   fill-step f i l old new d r e h p = rw (p, e, add-one) (filled-suc f i l old d h)
@@ -237,6 +248,16 @@ module _ {A B : Type 0} {n i : ℕ} {f : ℕ → A → B} {l : List A} {old new 
   make-more {r} d below e =
       let h : length l ≡ n = m .source in
       record { source = m .source; target = m .target; made = fill-step f i l old new d r (m .made) (omega arith) e }
+
+  pub make-keep : (d : A) (b : B) → i < n → getD old i b ≡ f (i + 1) (getD l i d) → Made n f l old (i + 1) new
+  make-keep d b below e =
+      let h : length l ≡ n = m .source in
+      let g : length old ≡ n = m .target in
+      record {
+        source = m .source;
+        target = m .target;
+        made = m .made ∙ rw add-one (filled-keep f i l old d b (omega arith) (omega arith) (rw add-one at e));
+      }
 
   pub make-over : n ≤ i → new ≡ each f l
   make-over h = fill-over n f i l old new (m .made) (m .source) (m .target) h

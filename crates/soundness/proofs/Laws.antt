@@ -8,7 +8,7 @@ use native.Mathlib.Nat.{le-refl, not-suc-le-zero}
 use native.Mathlib.Omega.{arith}
 use lib.Dec.{leb, eqb}
 use lib.ListN.{length, getD}
-use borrow.Author.Tests.{le-leb, lt-leb, eq-eqb}
+use borrow.Author.Tests.{lt-ltb, le-leb, lt-leb, eq-eqb}
 use Rattle.lists.proofs.Cases.{if-case, cases, lt-or-le, eq-or-ne}
 use Rattle.lists.specs.Words.{at, every}
 use Rattle.lists.proofs.Loops.{every-same}
@@ -19,10 +19,11 @@ use Rattle.tables.specs.declared.Tables.{Tables}
 use Rattle.tables.specs.Facts.{Consistent}
 use Rattle.trains.specs.declared.Train.{Train}
 use Rattle.trains.specs.declared.Spot.{Spot}
-use Rattle.trains.specs.Train.{mostTrains, off, trainAt, isOn, ownLimit, occupied, ahead}
+use Rattle.trains.specs.Train.{mostTrains, off, trainAt, isOn, ownLimit}
 use Rattle.trains.specs.Spot.{spotOf}
-use Rattle.trains.specs.Sound.{placeSound, toRun, standsSound, trainSound, allocationSound}
-use Rattle.standing.specs.Spots.{spotsOf, noSpot, spotAt}
+use Rattle.trains.specs.Sound.{offSound, placeSound, toRun, brakingSound, askingSound, standsSound, trainSound, holderSound}
+use Rattle.standing.specs.Spots.{noSpot, standsOf, spotsOf, spotAt}
+use Rattle.standing.proofs.Laws.{stands-same}
 use Rattle.soundness.specs.Stopping.{Stopping}
 use Rattle.trains.proofs.Safety.{in-margin}
 use Rattle.trains.proofs.Soundness.{place-facts}
@@ -41,8 +42,8 @@ limit-stops T ok held t x on h =
 
 -- the list of where trains stand has each train's own spot: what the tests ask holds of it, and they are the tests of the record
 module _ (T : Tables) (A : List ℕ) (trains : List Train) {spots : List Spot} (long : length trains ≡ mostTrains) (e : spots ≡ spotsOf T A trains) where
-  spot-at : (t : ℕ) → 1 ≤ t → t ≤ mostTrains → spotAt spots t ≡ spotOf T (at A) t (trainAt trains t)
-  spot-at t low high = ap (λ (l : List Spot). spotAt l t) e ∙ nth-each-in off noSpot (spotOf T (at A)) trains t low (omega arith)
+  spot-at : (t : ℕ) → 1 ≤ t → t ≤ mostTrains → spotAt spots t ≡ standsOf T (at A) t (trainAt trains t)
+  spot-at t low high = ap (λ (l : List Spot). spotAt l t) e ∙ nth-each-in off noSpot (standsOf T (at A)) trains t low (omega arith)
 
   pub stopping : Consistent T → Stopping (T .routes) (T .braking) (T .margin) spots trains
   stopping ok =
@@ -51,24 +52,32 @@ module _ (T : Tables) (A : List ℕ) (trains : List Train) {spots : List Spot} (
         stops =
             λ t.
             nth-where off trains t _
-            (λ low high. rw (spot-at t low (omega arith)) (limit-stops T ok (at A) t (trainAt trains t)))
+            (λ low high on.
+            let o : isOn (trainAt trains t) ≡ true = lt-ltb 0 (trainAt trains t .route) on in
+            rw (spot-at t low (omega arith), o) (limit-stops T ok (at A) t (trainAt trains t) on))
             (λ none on. absurd (not-suc-le-zero (rw none at on)));
       }
+
+  test-at :
+      (due t : ℕ) → 1 ≤ t → t ≤ mostTrains
+      → standsSound (T .routes) (T .braking) due (spotAt spots t) (trainAt trains t) ≡ trainSound T A due t (trainAt trains t)
+  unfolding standsSound
+  test-at due t low high =
+      let x = trainAt trains t in
+      ap (λ (p : Spot). standsSound (T .routes) (T .braking) due p x) (spot-at t low high)
+      ∙ stands-same T (at A) t x (λ (p : Spot). placeSound (T .routes) p x && brakingSound (T .braking) due p x && askingSound due p x) (offSound x)
 
   pub tests-same :
       (due : ℕ)
       → every mostTrains (λ (t : ℕ). standsSound (T .routes) (T .braking) due (spotAt spots t) (trainAt trains t))
       ≡ every mostTrains (λ (t : ℕ). trainSound T A due t (trainAt trains t))
-  tests-same due =
-      every-same mostTrains _ _ (λ t low high. ap (λ (p : Spot). standsSound (T .routes) (T .braking) due p (trainAt trains t)) (spot-at t low high))
+  tests-same due = every-same mostTrains _ _ (test-at due)
 
 -- a segment's allocation, with the train of the slot k, which is the holder's where there is one
 pub holder-sound :
-    (T : Tables) (trains : List Train) (s h k : ℕ) → length trains ≡ mostTrains → (1 ≤ h → h ≤ mostTrains → k ≡ h - 1)
-    → (eqb h 0 || (leb h mostTrains && leb s (T .segments) && isOn (getD trains k off) && (occupied T (getD trains k off) s || ahead T (getD trains k off) s)))
-    ≡ allocationSound T trains s h
-unfolding allocationSound
-holder-sound T trains s h k long slot =
+    (N : ℕ) (routebytes : List ℕ) (trains : List Train) (s h k : ℕ) → length trains ≡ mostTrains → (1 ≤ h → h ≤ mostTrains → k ≡ h - 1)
+    → (eqb h 0 || (leb h mostTrains && holderSound N routebytes (getD trains k off) s)) ≡ (eqb h 0 || holderSound N routebytes (trainAt trains h) s)
+holder-sound N routebytes trains s h k long slot =
     cases (eq-or-ne h 0) (λ z. rw (eq-eqb h 0 z))
     (λ some.
     cases (lt-or-le mostTrains h) (λ out. rw (lt-leb h mostTrains out, nth-out off trains h (omega arith), and-false))

@@ -6,11 +6,10 @@ ghost use lib.Dec.{leb, eqb};
 ghost use Rattle.lists.specs.Words.{at, every};
 ghost use Rattle.braking.specs.Braking.{S};
 ghost use Rattle.tables.specs.Bounds.{mostSegments};
-ghost use Rattle.trains.specs.Train.{mostTrains, trainAt, isOn, occupiedIn, aheadIn};
-ghost use Rattle.trains.specs.Sound.{offSound, placeSound, toRun, brakingSound, askingSound, standsSound, allocationSound};
+ghost use Rattle.trains.specs.Train.{mostTrains, trainAt};
+ghost use Rattle.trains.specs.Sound.{offSound, placeSound, toRun, brakingSound, askingSound, standsSound, holderSound};
 ghost use Rattle.standing.specs.Spots.{spotAt};
 ghost use Rattle.soundness.specs.Stopping.{Stopping};
-use tables::Tables;
 use trains::Spot;
 use trains::Train;
 
@@ -118,25 +117,31 @@ fn slot_of(h: u8) -> usize
 }
 
 fn allocation_sound(routebytes: &[u8; 960], segments: u8, s: u8, h: u8, x: Train) -> bool
-    ensures { λ r. ⌜ r ≡ (eqb h 0 || (leb h mostTrains && leb s segments && isOn x && (occupiedIn (now (routebytes .entry)) x s || aheadIn (now (routebytes .entry)) x s))) ⌝ }
+    ensures { λ r. ⌜ r ≡ (eqb h 0 || (leb h mostTrains && holderSound segments (now (routebytes .entry)) x s)) ⌝ }
 {
     if h == 0 {
         return true;
     }
     let own = standing::is_occupied(routebytes, x, s);
     let next = standing::is_ahead(routebytes, x, s);
-    (h <= 24) & (s <= segments) & (0 < x.route) & (own | next)
+    let whose = (s <= segments) & (0 < x.route) & (own | next);
+    (h <= 24) & whose
 }
 
-pub fn allocations_sound(tables: Tables, allocations: [u8; 62], trains: [Train; 24]) -> bool
-    ensures { λ r. ⌜ r ≡ every mostSegments (λ s. allocationSound tables trains s (at allocations s)) ⌝ }
+pub fn allocations_sound(
+    routebytes: &[u8; 960],
+    segments: u8,
+    allocations: [u8; 62],
+    trains: [Train; 24],
+) -> bool
+    ensures { λ r. ⌜ r ≡ every mostSegments (λ s. eqb (at allocations s) 0 || holderSound segments (now (routebytes .entry)) (trainAt trains (at allocations s)) s) ⌝ }
 {
     let mut i: usize = 0;
     while i < 62 {
         let h = allocations[i];
         let k = slot_of(h);
         let x = trains[k];
-        if !allocation_sound(&tables.routebytes, tables.segments, (i + 1) as u8, h, x) {
+        if !allocation_sound(routebytes, segments, (i + 1) as u8, h, x) {
             return false;
         }
         i += 1;

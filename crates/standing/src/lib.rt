@@ -6,7 +6,7 @@ ghost use Rattle.lists.specs.Words.{at, each};
 ghost use Rattle.trains.specs.Train.{off, entered, withSpeed, withAsking, movedTo, trainAt, ownIn, nextIn, occupiedIn, aheadIn, wantedIn};
 ghost use Rattle.trains.specs.Spot.{spotIn};
 ghost use Rattle.trains.specs.Cycle.{wants};
-ghost use Rattle.standing.specs.Spots.{noSpot};
+ghost use Rattle.standing.specs.Spots.{noSpot, standsIn};
 use lists::entry_u8;
 use lists::entry_u16;
 use lists::entry_u32;
@@ -188,21 +188,23 @@ pub fn spots_of<'a>(
     margin: u32,
     trains: [Train; 24],
 ) -> [Spot; 24]
-    ensures { λ r. ⌜ r ≡ each (spotIn (now (routebytes .entry)) (now (lengths .entry)) (now (limits .entry)) margin (at (now (allocations .entry)))) trains ⌝ }
+    ensures { λ r. ⌜ r ≡ each (standsIn (now (routebytes .entry)) (now (lengths .entry)) (now (limits .entry)) margin (at (now (allocations .entry)))) trains ⌝ }
 {
     let mut new = [no_spot(); 24];
     let mut i: usize = 0;
     while i < 24 {
         let x = trains[i];
-        new[i] = spot_of(
-            routebytes,
-            lengths,
-            limits,
-            allocations,
-            margin,
-            (i + 1) as u8,
-            x,
-        );
+        if x.route != 0 {
+            new[i] = spot_of(
+                routebytes,
+                lengths,
+                limits,
+                allocations,
+                margin,
+                (i + 1) as u8,
+                x,
+            );
+        }
         i += 1;
     }
     new

@@ -11,7 +11,7 @@ use Rattle.tables.specs.declared.Tables.{Tables}
 use Rattle.trains.specs.declared.Train.{Train}
 use Rattle.trains.specs.declared.Spot.{Spot}
 use Rattle.trains.specs.Due.{speedDue, grantDue}
-use Rattle.trains.specs.Train.{trainAt, isOn, occupied, ahead}
+use Rattle.trains.specs.Train.{trainAt, isOn, occupiedIn, aheadIn}
 use Rattle.trains.specs.Spot.{spotOf}
 use Rattle.trains.specs.Cycle.{wants}
 
@@ -48,7 +48,10 @@ standsSound R b due p x = if isOn x then placeSound R p x && brakingSound b due 
 abbrev pub trainSound : Tables → List ℕ → ℕ → ℕ → Train → Bool
 trainSound T A due t x = standsSound (T .routes) (T .braking) due (spotOf T (at A) t x) x
 
--- an allocation is 0 or the number of a train on, under which the segment is or ahead of which it may be allocated; above N it is 0
+-- a segment that is allocated to a train: at most N; the train is on, and the segment is under it or may be allocated ahead of it
+abbrev pub holderSound : (N : ℕ) (routebytes : List ℕ) → Train → ℕ → Bool
+holderSound N routebytes x s = leb s N && isOn x && (occupiedIn routebytes x s || aheadIn routebytes x s)
+
+-- an allocation is 0 or the number of a train on; above N it is 0
 unfoldable pub allocationSound : Tables → List Train → ℕ → ℕ → Bool
-allocationSound T trains s h =
-    eqb h 0 || (leb s (T .segments) && isOn (trainAt trains h) && (occupied T (trainAt trains h) s || ahead T (trainAt trains h) s))
+allocationSound T trains s h = eqb h 0 || holderSound (T .segments) (T .routebytes) (trainAt trains h) s

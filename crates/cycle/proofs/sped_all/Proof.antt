@@ -8,7 +8,7 @@ use Rattle.lists.proofs.Loops.{Made, make-begin, make-more, make-over}
 use Rattle.trains.specs.declared.Train.{Train}
 use Rattle.trains.specs.Train.{off}
 use Rattle.trains.specs.Cycle.{spedAt}
-use Rattle.standing.specs.Spots.{spotAt}
+use Rattle.standing.specs.Spots.{noSpot, spotAt}
 use Rattle.cycle.proofs.sped_all.Statement.{statement}
 use Rattle.cycle.proofs.sped_all.Tie as tie
 
@@ -21,7 +21,7 @@ abbrev μ-loop : tie.MeasureT-loop
 loop-again : tie.Need-loop-again Inv-loop μ-loop
 loop-again c =
     let l = c .before .before .before .before in
-    make-more (l .before .loop .inv) off (l .loop-test .taken) (rw nth-index (rw (c .before .entry-u16 .ensures) at (c .sped-train .ensures)))
+    make-more (l .before .loop .inv) off (l .loop-test .taken) (rw (nth-index noSpot) (rw (c .before .entry-u16 .ensures) at (c .sped-train .ensures)))
 
 pub sped-all-spec : {M : Type 1} → statement M
 sped-all-spec =

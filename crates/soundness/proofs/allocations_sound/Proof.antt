@@ -1,33 +1,34 @@
 -- Each allocation is tested with the train in its holder's slot, which plays no part where the holder is no train; the first that fails
 -- makes the test of all false.
 use Prim.Native.Nat.{ℕ, _+_, _-_, _≤_}
-use mathlib.Core.Path.{_≡_, sym, _∙_}
-use mathlib.Core.Bool.{Bool, true}
+use mathlib.Core.Path.{_≡_, sym}
+use mathlib.Core.Bool.{Bool, true, _||_}
 use mathlib.Core.List.{List}
 use native.Mathlib.Omega.{arith}
-use lib.ListN.{length}
+use lib.Dec.{eqb}
+use lib.ListN.{length, getD}
+use denote.Ref.{now}
 use borrow.Author.Needs.{needs}
 use Rattle.lists.specs.Words.{at, every}
 use Rattle.lists.proofs.Cases.{test-fails, test-holds}
 use Rattle.lists.proofs.Loops.{every-none, every-more, every-fails}
 use Rattle.lists.proofs.Numbered.{nth-index, long-of}
 use Rattle.tables.specs.Bounds.{mostSegments}
-use Rattle.tables.specs.declared.Tables.{Tables}
 use Rattle.trains.specs.declared.Train.{Train}
-use Rattle.trains.specs.Sound.{allocationSound}
-use Rattle.trains.specs.Train.{mostTrains}
+use Rattle.trains.specs.Sound.{holderSound}
+use Rattle.trains.specs.Train.{mostTrains, trainAt}
 use Rattle.soundness.proofs.Laws.{holder-sound}
 use Rattle.soundness.proofs.allocations_sound.Statement.{statement}
 use Rattle.soundness.proofs.allocations_sound.Tie as tie
 
-abbrev sound : Tables → List ℕ → List Train → ℕ → Bool
-sound tables allocations trains s = allocationSound tables trains s (at allocations s)
+abbrev sound : (routebytes : List ℕ) (N : ℕ) (allocations : List ℕ) → List Train → ℕ → Bool
+sound routebytes N allocations trains s = eqb (at allocations s) 0 || holderSound N routebytes (trainAt trains (at allocations s)) s
 
 abbrev Inv-loop : tie.InvT-loop
-Inv-loop tables allocations trains i₀ i = (i ≤ mostSegments) × (every i (sound tables allocations trains) ≡ true)
+Inv-loop routebytes segments allocations trains i₀ i = (i ≤ mostSegments) × (every i (sound routebytes segments allocations trains) ≡ true)
 
 abbrev μ-loop : tie.MeasureT-loop
-μ-loop tables allocations trains i₀ i = mostSegments - i
+μ-loop routebytes segments allocations trains i₀ i = mostSegments - i
 
 loop-holds : tie.Need-loop-holds Inv-loop μ-loop
 loop-holds c = (omega arith, every-none _)
@@ -54,21 +55,25 @@ allocation-sound-requires : tie.Need-allocation-sound-requires Inv-loop μ-loop
 allocation-sound-requires c κs = search needs
 
 abbrev turn : tie.After-allocation-sound Inv-loop μ-loop → tie.In-loop Inv-loop μ-loop
-turn c = c .before .before .before .before .before
+turn c = c .before .before .before
 
 here :
     (c : tie.After-allocation-sound Inv-loop μ-loop)
     → let a = turn c .before .before .args in
-    c .allocation-sound .result ≡ sound (a .t1) (a .t2) (a .t3) (turn c .before .loop .i + 1)
+    c .allocation-sound .result ≡ sound (now (a .routebytes)) (a .segments) (a .t3) (a .t4) (turn c .before .loop .i + 1)
 here c =
-    let n : length (turn c .before .before .args .t3) ≡ mostTrains = search long-of in
-    c .allocation-sound .ensures ∙ rw nth-index (holder-sound _ _ _ _ _ n (c .before .before .before .before .slot-of .ensures .1))
+    let a = turn c .before .before .args in
+    let i = turn c .before .loop .i in
+    let k = c .before .before .slot-of in
+    let n : length (a .t4) ≡ mostTrains = search long-of in
+    let same = holder-sound (a .segments) (now (a .routebytes)) (a .t4) (i + 1) (getD (a .t3) i 0) (k .result) n (k .ensures .1) in
+    rw nth-index (rw same at (c .allocation-sound .ensures))
 
 returns : tie.Need-returns Inv-loop μ-loop
 returns c =
     let t = turn (c .before) in
     let a = t .before .before .args in
-    sym (every-fails (sound (a .t1) (a .t2) (a .t3)) mostSegments (t .before .loop .i + 1) (omega arith) (omega arith) (test-fails (here (c .before)) (c .if1 .taken)))
+    sym (every-fails (sound (now (a .routebytes)) (a .segments) (a .t3) (a .t4)) mostSegments (t .before .loop .i + 1) (omega arith) (omega arith) (test-fails (here (c .before)) (c .if1 .taken)))
 
 add-i : tie.Need-add-i Inv-loop μ-loop
 add-i c = omega arith

@@ -11,9 +11,9 @@ use Rattle.lists.proofs.Loops.{every-none, every-more, every-fails}
 use Rattle.lists.proofs.Numbered.{nth-index}
 use Rattle.trains.specs.declared.Train.{Train}
 use Rattle.trains.specs.declared.Spot.{Spot}
-use Rattle.trains.specs.Train.{mostTrains, trainAt}
+use Rattle.trains.specs.Train.{mostTrains, off, trainAt}
 use Rattle.trains.specs.Sound.{standsSound}
-use Rattle.standing.specs.Spots.{spotAt}
+use Rattle.standing.specs.Spots.{noSpot, spotAt}
 use Rattle.soundness.proofs.trains_sound.Statement.{statement}
 use Rattle.soundness.proofs.trains_sound.Tie as tie
 
@@ -30,7 +30,8 @@ train-sound-requires : tie.Need-train-sound-requires Inv-loop μ-loop
 train-sound-requires c κs =
     let l = c .before .before .before in
     let s = l .before in
-    (s .pre .rate, rw (nth-index, nth-index) at (s .pre .stops (l .loop .i + 1)))
+    let i = l .loop .i in
+    (s .pre .rate, rw (nth-index noSpot (s .args .t5) i, nth-index off (s .args .t6) i) at (s .pre .stops (i + 1)))
 
 -- the turn of the loop that a test ends, and what it found
 abbrev turn : tie.After-train-sound Inv-loop μ-loop → tie.In-loop Inv-loop μ-loop
@@ -40,7 +41,9 @@ here :
     (c : tie.After-train-sound Inv-loop μ-loop)
     → let a = turn c .before .before .args in
     c .train-sound .result ≡ sound (a .routes) (a .braking) (a .due) (a .t5) (a .t6) (turn c .before .loop .i + 1)
-here c = rw (nth-index, nth-index) (c .train-sound .ensures)
+here c =
+    let l = turn c .before in
+    rw (nth-index noSpot (l .before .args .t5) (l .loop .i), nth-index off (l .before .args .t6) (l .loop .i)) (c .train-sound .ensures)
 
 returns : tie.Need-returns Inv-loop μ-loop
 returns c =

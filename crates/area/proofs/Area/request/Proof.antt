@@ -1,14 +1,9 @@
 -- The number of the first test that holds decides the outcome; where none does, the contract of the requests makes the record.
-use Prim.Native.Nat.{ℕ}
 use mathlib.Core.Path.{_≡_, refl, ap, _∙_}
 use borrow.Author.Needs.{needs}
 use Rattle.lists.specs.Tests.{firstOf}
-use Rattle.lists.specs.Words.{at}
-use Rattle.lists.proofs.Numbered.{made-beside}
 use Rattle.trains.specs.Due.{requestDue}
-use Rattle.trains.specs.Spot.{spotOf}
-use Rattle.trains.specs.Cycle.{requestedAt, requested}
-use Rattle.standing.specs.Spots.{noSpot}
+use Rattle.cycle.proofs.Laws.{requested-beside}
 use Rattle.area.specs.declared.Examined.{Examined}
 use Rattle.area.specs.Calls.{stepTests, afterRequest, requestCall}
 use Rattle.area.proofs.Laws.{refused-by, finished-by}
@@ -26,7 +21,7 @@ returns c =
     c .answered .ensures ∙ refused-by (stepTests requestDue a) (refusal n) (afterRequest a) a refl (c .before .if1 .taken)
 
 returns-2 : tie.Need-returns-2
-unfolding requestCall afterRequest requested
+unfolding requestCall afterRequest
 returns-2 c =
     let passed = c .before .before .before .before .before .before in
     let n = passed .before in
@@ -34,7 +29,7 @@ returns-2 c =
     let spots = ap (λ (x : Examined). x .spots) (n .before .examined .ensures) in
     c .answered2 .ensures
     ∙ finished-by (stepTests requestDue a) (refusal n) (afterRequest a) a refl (passed .if1 .left)
-    (simp (made-beside noSpot (spotOf (a .tables) (at (a .allocations))) (λ (t : ℕ). requestedAt) (a .trains) spots (c .before .requested-all .ensures)))
+    (simp (requested-beside (a .tables) (a .allocations) (a .trains) spots (c .before .requested-all .ensures)))
 
 pub request-spec : {M : Type 1} → statement M
 request-spec =

@@ -4,14 +4,8 @@ use mathlib.Core.List.{List}
 use Prim.Native.Nat.{ℕ}
 use denote.Ref.{now}
 use borrow.Author.Needs.{needs}
-use Rattle.lists.specs.Words.{at}
 use Rattle.lists.specs.Tests.{firstOf}
-use Rattle.lists.proofs.Numbered.{made-beside}
-use Rattle.trains.specs.declared.Spot.{Spot}
-use Rattle.trains.specs.declared.Train.{Train}
-use Rattle.trains.specs.Spot.{spotOf}
-use Rattle.trains.specs.Cycle.{spedAt, sped}
-use Rattle.standing.specs.Spots.{noSpot}
+use Rattle.cycle.proofs.Laws.{sped-beside}
 use Rattle.area.specs.declared.Examined.{Examined}
 use Rattle.area.specs.Calls.{speedTests, afterSpeed, speedCall}
 use Rattle.area.proofs.Laws.{refused-by, finished-by}
@@ -33,17 +27,16 @@ returns c =
     c .answered .ensures ∙ refused-by (speedTests a (wishes s)) (refusal n) (afterSpeed a (wishes s)) a refl (c .before .if1 .taken)
 
 returns-2 : tie.Need-returns-2
-unfolding speedCall afterSpeed sped
+unfolding speedCall afterSpeed
 returns-2 c =
     let passed = c .before .before .before .before .before .before in
     let n = passed .before in
     let s = n .before .before .before in
     let a = s .args .self in
     let spots = ap (λ (x : Examined). x .spots) (n .before .examined .ensures) in
-    let made : ℕ → Spot → Train → Train = λ t p. spedAt (a .tables .braking) p (at (wishes s) t) in
     c .answered2 .ensures
     ∙ finished-by (speedTests a (wishes s)) (refusal n) (afterSpeed a (wishes s)) a refl (passed .if1 .left)
-    (simp (made-beside noSpot (spotOf (a .tables) (at (a .allocations))) made (a .trains) spots (c .before .sped-all .ensures)))
+    (simp (sped-beside (a .tables) (a .allocations) (a .trains) spots (wishes s) (c .before .sped-all .ensures)))
 
 pub speed-spec : {M : Type 1} → statement M
 speed-spec =
