@@ -19,7 +19,7 @@ use Rattle.trains.specs.Cycle.{low, upperEnd}
 use Rattle.trains.specs.Sound.{trainSound, allocationSound}
 use Rattle.trains.proofs.Safety.{own-is, low-high}
 use Rattle.trains.proofs.Soundness.{train-iff, off-iff, allocation-iff}
-use Rattle.cycle.specs.Room.{Room}
+use Rattle.steps.specs.Room.{Room}
 use Rattle.area.specs.declared.Area.{Area}
 use Rattle.area.specs.Sound.{sound}
 use Rattle.area.specs.SoundFacts.{SoundArea}

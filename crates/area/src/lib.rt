@@ -152,7 +152,7 @@ impl Area {
         ensures { λ r. ⌜ r ≡ speedCall self (now (wishes .entry)) ⌝ }
     {
         let found = self.examined();
-        let number = cycle::speed_refusal(found.ok, self.due, wishes.len());
+        let number = steps::speed_refusal(found.ok, self.due, wishes.len());
         if number != 0 {
             return answered(self, number);
         }
@@ -176,7 +176,7 @@ impl Area {
         ensures { λ r. ⌜ r ≡ requestCall self ⌝ }
     {
         let found = self.examined();
-        let number = cycle::step_refusal(found.ok, self.due, 1);
+        let number = steps::step_refusal(found.ok, self.due, 1);
         if number != 0 {
             return answered(self, number);
         }
@@ -200,7 +200,7 @@ impl Area {
         ensures { λ r. ⌜ r ≡ grantCall self ⌝ }
     {
         let ok = self.sound();
-        let number = cycle::step_refusal(ok, self.due, 2);
+        let number = steps::step_refusal(ok, self.due, 2);
         if number != 0 {
             return answered(self, number);
         }
@@ -224,7 +224,7 @@ impl Area {
         ensures { λ r. ⌜ r ≡ positionCall self ⌝ }
     {
         let ok = self.sound();
-        let number = cycle::step_refusal(ok, self.due, 3);
+        let number = steps::step_refusal(ok, self.due, 3);
         if number != 0 {
             return answered(self, number);
         }

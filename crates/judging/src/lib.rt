@@ -40,7 +40,7 @@ fn first_bad_record(file: &[u8], t: Tables) -> u8
         let zeros = is_reserved(file, i as usize);
         i += 1;
         let row = lookups::row_of(&t.lengths, &t.limits, &t.next, &t.previous, &t.flags, i);
-        if !(rules::row_ok(t.segments, t.gmax, t.margin, i, row) & zeros) {
+        if !(records::row_ok(t.segments, t.gmax, t.margin, i, row) & zeros) {
             return i;
         }
     }
@@ -63,10 +63,10 @@ fn judge(file: &[u8], t: Tables) -> Reading
     ensures { λ r. ⌜ r ≡ readingBy (firstOf (tableTests (now (file .entry)) t)) t ⌝ }
 {
     if !(is_header_filed(file)
-        & rules::header_ok(t.segments, t.routes, t.gmax, t.braking, t.margin)) {
+        & records::header_ok(t.segments, t.routes, t.gmax, t.braking, t.margin)) {
         return refused(4, 0);
     }
-    if !rules::margin_ok(t.gmax, t.braking, t.margin) {
+    if !records::margin_ok(t.gmax, t.braking, t.margin) {
         return refused(5, 0);
     }
     let record = first_bad_record(file, t);

@@ -1,93 +1,25 @@
-// Rules 4 to 9 over the tables of an area, and with rule 10 all of them together. Arrays are lent to the rules, so that none is copied.
+// Rules 6 to 9 over the tables of an area, and rules 4 to 10 together. Arrays are lent to the rules, so that none is copied.
 ghost use mathlib.Core.Path.{_≡_};
-ghost use Prim.Native.Nat.{_≤_, _+_};
+ghost use Prim.Native.Nat.{_+_};
 ghost use lib.Dec.{leb};
 ghost use Rattle.lists.specs.Words.{firstFailing};
-ghost use Rattle.braking.specs.Braking.{S};
 ghost use Rattle.tables.specs.Bounds.{mostSegments};
 ghost use Rattle.tables.specs.Tables.{rowOf};
-ghost use Rattle.tables.specs.Rules.{headerIn, linksOk, usedOk, unusedOk, rowOk, matched, jointIn, greater, orderIn, gentle, dropIn, meets};
+ghost use Rattle.tables.specs.Rules.{rowOk, matched, jointIn, greater, orderIn, gentle, dropIn, meets};
 ghost use Rattle.rules.specs.Scan.{segmentMeets};
 use lists::entry_u16;
 use lookups::first_link;
 use lookups::links_to;
 use lookups::row_of;
 use lookups::second_link;
-use tables::FASTEST;
-use tables::LONGEST;
-use tables::MOST_ROUTES;
+use records::header_ok;
+use records::margin_ok;
+use records::row_ok;
 use tables::MOST_SEGMENTS;
-use tables::Segment;
 use tables::Tables;
 
-// ---- rules 4 and 5
-pub fn header_ok(segments: u8, routes: u8, gmax: u16, braking: u16, margin: u32) -> bool
-    ensures { λ r. ⌜ r ≡ headerIn segments routes gmax braking margin ⌝ }
-{
-    (1 <= segments)
-        & (segments <= MOST_SEGMENTS)
-        & (1 <= routes)
-        & (routes <= MOST_ROUTES)
-        & (1 <= gmax)
-        & (gmax <= FASTEST)
-        & (1 <= braking)
-        & (braking <= gmax)
-        & (1 <= margin)
-        & (margin <= LONGEST)
-}
-
-pub fn margin_ok(gmax: u16, braking: u16, margin: u32) -> bool
-    requires { ⌜ 1 ≤ braking ⌝ }
-    ensures { λ r. ⌜ r ≡ leb (S braking gmax) margin ⌝ }
-{
-    braking::braking_distance(gmax, braking) <= margin
-}
-
 // ---- rule 6
-fn links_ok(n: u8, first: u8, second: u8) -> bool
-    ensures { λ r. ⌜ r ≡ linksOk n first second ⌝ }
-{
-    (first <= n) & (second <= n) & ((second == 0) | ((first != 0) & (first != second)))
-}
-
-// Of tables handed in nothing is known, so the sum is of 64 bits.
-fn used_ok(n: u8, gmax: u16, margin: u32, s: Segment) -> bool
-    ensures { λ r. ⌜ r ≡ usedOk n gmax margin s ⌝ }
-{
-    let shortest = (margin as u64) + (gmax as u64);
-    let length = s.length as u64;
-    (shortest < length)
-        & (s.length <= LONGEST)
-        & (1 <= s.limit)
-        & (s.limit <= gmax)
-        & links_ok(n, s.next1, s.next2)
-        & links_ok(n, s.previous1, s.previous2)
-        & (s.flags <= 3)
-}
-
-fn unused_ok(s: Segment) -> bool
-    ensures { λ r. ⌜ r ≡ unusedOk s ⌝ }
-{
-    (s.length == 0)
-        & (s.limit == 0)
-        & (s.next1 == 0)
-        & (s.next2 == 0)
-        & (s.previous1 == 0)
-        & (s.previous2 == 0)
-        & (s.flags == 0)
-}
-
-// What is kept of segment record k.
-pub fn row_ok(n: u8, gmax: u16, margin: u32, k: u8, s: Segment) -> bool
-    ensures { λ r. ⌜ r ≡ rowOk n gmax margin k s ⌝ }
-{
-    if k <= n {
-        return used_ok(n, gmax, margin, s);
-    }
-    unused_ok(s)
-}
-
-// The least of all segment records that breaks rule 6 in what is kept of it, 0 where none does.
+// The least of all segment records that breaks it in what the tables keep, 0 where none does.
 fn first_bad_segment<'a>(
     lengths: &'a [u32; 62],
     limits: &'a [u16; 62],
