@@ -36,3 +36,11 @@ pub fn place_of(answer: Answer) -> u16
         Answer::Refused { number, place } => place,
     }
 }
+
+// The number of an answer; its place goes to `place`.
+pub fn tell(answer: Answer, place: &mut u16) -> u8
+    ensures { λ r. ⌜ (r ≡ numberOf answer) × (now (place .exit) ≡ placeOf answer) ⌝ }
+{
+    *place = place_of(answer);
+    number_of(answer)
+}

@@ -1,1 +1,2 @@
 pub mod Braking
+pub mod Distance

@@ -2,6 +2,7 @@
 ghost use mathlib.Core.Path.{_≡_};
 ghost use Prim.Native.Nat.{_≤_};
 ghost use Rattle.braking.specs.Braking.{S};
+ghost use Rattle.braking.specs.Distance.{distanceAt};
 
 // S(speed) at the rate `braking`: the falling speed is kept, and lowered by the rate each turn, to 0 at the last.
 pub fn braking_distance(speed: u16, braking: u16) -> u32
@@ -19,4 +20,14 @@ pub fn braking_distance(speed: u16, braking: u16) -> u32
         }
     }
     sum
+}
+
+// S(speed) at a rate of braking; 0 at a rate of 0.
+pub fn distance_at(rate: u16, speed: u16) -> u32
+    ensures { λ r. ⌜ r ≡ distanceAt rate speed ⌝ }
+{
+    if rate == 0 {
+        return 0;
+    }
+    braking_distance(speed, rate)
 }

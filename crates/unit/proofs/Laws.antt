@@ -1,4 +1,4 @@
--- What a run from a file and from any record comes to, in the words of the contracts; the braking distance.
+-- What a run from a file and from any record comes to, in the words of the contracts.
 use Prim.Native.Nat.{ℕ}
 use mathlib.Core.Path.{_≡_, refl, sym, ap, _∙_}
 use mathlib.Core.List.{List}
@@ -6,7 +6,6 @@ use lib.ListN.{length}
 use borrow.Author.Tests.{eq-eqb, ne-eqb}
 use Rattle.lists.specs.Words.{if_then_else_}
 use Rattle.lists.proofs.Cases.{if-case, not-both}
-use Rattle.braking.specs.Braking.{S}
 use Rattle.decoding.specs.Decoding.{decoded}
 use Rattle.answers.specs.Answers.{numberOf, placeOf}
 use Rattle.area.specs.declared.Area.{Area}
@@ -18,17 +17,6 @@ use Rattle.runs.specs.declared.FileRan.{FileRan}
 use Rattle.runs.specs.Ran.{ranOf, written, fileWorld, fileRanOf, fileWritten}
 use Rattle.runs.proofs.Laws.{FileRun}
 use Rattle.state.specs.State.{stateInto, recordOf}
-use Rattle.unit.specs.Distance.{distanceAt}
-
--- the braking distance at no rate, and at some
-module _ (rate speed : ℕ) where
-  pub distance-none : rate ≡ 0 → 0 ≡ distanceAt rate speed
-  unfolding distanceAt
-  distance-none e = rw e
-
-  pub distance-some : (rate ≡ 0 → ⊥) → S rate speed ≡ distanceAt rate speed
-  unfolding distanceAt
-  distance-some n = rw (ne-eqb rate 0 n)
 
 -- ---- a list of calls from a file
 file-answer : (file script : List ℕ) (room : ℕ) → fileRanOf file script room .answer ≡ loaded file .answer

@@ -1,2 +1,1 @@
-pub mod Distance
 pub mod After

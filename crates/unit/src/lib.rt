@@ -2,6 +2,7 @@
 // a result beside the returned one goes through a reference. The layouts are in docs/FORMATS.md, the declarations in include/.
 ghost use mathlib.Core.Path.{_≡_};
 ghost use lib.ListN.{length};
+ghost use Rattle.braking.specs.Distance.{distanceAt};
 ghost use Rattle.decoding.specs.Decoding.{decoded};
 ghost use Rattle.view.specs.View.{viewStart, viewCount};
 ghost use Rattle.answers.specs.Answers.{numberOf, placeOf};
@@ -11,18 +12,8 @@ ghost use Rattle.area.specs.Calls.{reported};
 ghost use Rattle.separation.specs.Claim.{Separated};
 ghost use Rattle.runs.specs.Ran.{ranOf, written, fileWorld, fileRanOf, fileWritten};
 ghost use Rattle.state.specs.State.{stateInto, recordOf};
-ghost use Rattle.unit.specs.Distance.{distanceAt};
 ghost use Rattle.unit.specs.After.{areaAfter, stateAfter};
-use answers::Answer;
 use area::Area;
-
-// The number of an answer; its place goes to `place`.
-fn tell_answer(answer: Answer, place: &mut u16) -> u8
-    ensures { λ r. ⌜ (r ≡ numberOf answer) × (now (place .exit) ≡ placeOf answer) ⌝ }
-{
-    *place = answers::place_of(answer);
-    answers::number_of(answer)
-}
 
 // The number of the answer to a report; its two numbers go to `allocated` and `free`.
 fn tell_report(area: Area, allocated: &mut u8, free: &mut u8) -> u8
@@ -43,7 +34,7 @@ pub extern "C" fn rbu_load(file: &[u8], place: &mut u16) -> u8
 {
     let o = loading::load(file);
     let answer = o.answer;
-    tell_answer(answer, place)
+    answers::tell(answer, place)
 }
 
 // Where the view of a route starts in the file, and how many bytes it has; both 0 where it is empty.
@@ -77,11 +68,10 @@ pub extern "C" fn rbu_run_file(
 {
     let ran = runs::run_file(file, script, answers);
     let answer = ran.answer;
-    let n = tell_answer(answer, place);
+    let n = answers::tell(answer, place);
     *number = n;
     if n == 0 {
-        let area = ran.area;
-        state::write_state(area, state);
+        state::write_state(ran.area, state);
     }
     ran.calls
 }
@@ -119,8 +109,7 @@ pub extern "C" fn rbu_run_record(
 {
     let before = state::record_of(file, state);
     let run = runs::run(before, script, answers);
-    let after = run.area;
-    state::write_state(after, state);
+    state::write_state(run.area, state);
     run.calls
 }
 
@@ -152,8 +141,5 @@ pub extern "C" fn rbu_report_record(
 pub extern "C" fn rbu_braking_distance(rate: u16, speed: u16) -> u32
     ensures { λ r. ⌜ r ≡ distanceAt rate speed ⌝ }
 {
-    if rate == 0 {
-        return 0;
-    }
-    braking::braking_distance(speed, rate)
+    braking::distance_at(rate, speed)
 }

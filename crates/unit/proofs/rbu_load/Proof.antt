@@ -8,14 +8,14 @@ use Rattle.unit.proofs.rbu_load.Tie as tie
 load-requires : tie.Need-load-requires
 load-requires c κs = search needs
 
-tell-answer-requires : tie.Need-tell-answer-requires
-tell-answer-requires c κs = search needs
+tell-requires : tie.Need-tell-requires
+tell-requires c κs = search needs
 
 returns : tie.Need-returns
 returns c =
     let e = c .before .before .load .ensures in
-    let t = c .tell-answer .ensures in
+    let t = c .tell .ensures in
     (t .0 ∙ ap (λ (o : Outcome). numberOf (o .answer)) e, t .1 ∙ ap (λ (o : Outcome). placeOf (o .answer)) e)
 
 pub rbu-load-spec : {M : Type 1} → statement M
-rbu-load-spec = tie.close (tie.spec load-requires tell-answer-requires returns)
+rbu-load-spec = tie.close (tie.spec load-requires tell-requires returns)

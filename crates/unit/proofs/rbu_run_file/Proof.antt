@@ -8,8 +8,8 @@ use Rattle.unit.proofs.rbu_run_file.Tie as tie
 run-file-requires : tie.Need-run-file-requires
 run-file-requires c κs = search needs
 
-tell-answer-requires : tie.Need-tell-answer-requires
-tell-answer-requires c κs = search needs
+tell-requires : tie.Need-tell-requires
+tell-requires c κs = search needs
 
 write-state-requires : tie.Need-write-state-requires
 write-state-requires c κs = search needs
@@ -23,11 +23,11 @@ same-length-2 c = search needs
 returns : tie.Need-returns
 returns c =
     let w = c .before .before in
-    let i = w .before .before .before in
+    let i = w .before .before in
     let p = i .before in
     let r = p .before .before .before .before in
     let old = now (r .before .before .before .before .before .before .args .answers) in
-    told-done _ _ old _ _ (r .run-file .ensures) _ _ (p .tell-answer .ensures .0) (p .tell-answer .ensures .1) _ (i .if1 .taken) _ (w .write-state .ensures)
+    told-done _ _ old _ _ (r .run-file .ensures) _ _ (p .tell .ensures .0) (p .tell .ensures .1) _ (i .if1 .taken) _ (w .write-state .ensures)
 
 same-length-3 : tie.Need-same-length-3
 same-length-3 c = search needs
@@ -37,9 +37,9 @@ returns-2 c =
     let p = c .before in
     let r = p .before .before .before .before in
     let old = now (r .before .before .before .before .before .before .args .answers) in
-    told-refused _ _ old _ _ (r .run-file .ensures) _ _ (p .tell-answer .ensures .0) (p .tell-answer .ensures .1) _ (c .if1 .left)
+    told-refused _ _ old _ _ (r .run-file .ensures) _ _ (p .tell .ensures .0) (p .tell .ensures .1) _ (c .if1 .left)
 
 pub rbu-run-file-spec : {M : Type 1} → statement M
 rbu-run-file-spec =
     tie.close
-    (tie.spec run-file-requires tell-answer-requires write-state-requires same-length same-length-2 returns same-length-3 returns-2)
+    (tie.spec run-file-requires tell-requires write-state-requires same-length same-length-2 returns same-length-3 returns-2)

@@ -23,7 +23,7 @@ same-length-2 c = search needs
 returns : tie.Need-returns
 returns c =
     let w = c .before .before in
-    let r = w .before .before .before .before .before in
+    let r = w .before .before .before .before in
     let b = r .before .before in
     let old = now (b .before .before .before .before .before .before .args .answers) in
     record-told _ _ old _ _ (b .record-of .ensures) _ (r .run .ensures .0) _ (r .run .ensures .1) _ (w .write-state .ensures)
