@@ -103,7 +103,7 @@ impl Area {
         let tables = self.tables;
         let held = self.allocations;
         let before = self.trains;
-        let entry = enter_leave::enter_refusal(ok, tables, held, before, train, route, speed);
+        let entry = admission::enter_refusal(ok, tables, held, before, train, route, speed);
         let number = entry.number;
         if number != 0 {
             return answered(self, number);
@@ -129,7 +129,7 @@ impl Area {
         let ok = self.sound();
         let tables = self.tables;
         let before = self.trains;
-        let number = enter_leave::leave_refusal(ok, tables, before, train);
+        let number = admission::leave_refusal(ok, tables, before, train);
         if number != 0 {
             return answered(self, number);
         }

@@ -1,4 +1,4 @@
-// The tests of enter and leave, and what becomes of the trains and of the allocations at these two.
+// What enter and leave ask of a segment, and what becomes of the trains and of the allocations at these two.
 ghost use mathlib.Core.Path.{_≡_};
 ghost use mathlib.Core.Bool.{not, _&&_};
 ghost use mathlib.Core.List.{[], _∷_};
@@ -8,15 +8,13 @@ ghost use Rattle.lists.specs.Words.{if_then_else_, at, each};
 ghost use Rattle.lists.specs.Tests.{_⇒_, firstOf};
 ghost use Rattle.tables.specs.Tables.{countOf};
 ghost use Rattle.trains.specs.Train.{ownIn};
-ghost use Rattle.trains.specs.EnterLeave.{firstSegment, takenBy, freedBy, becomes, entryTests, exitTests};
+ghost use Rattle.trains.specs.EnterLeave.{takenBy, freedBy, becomes};
 use lists::entry_u8;
 use lists::entry_u16;
-use tables::Tables;
 use trains::Train;
 
-// ---- the number of the first test of a call that holds, 0 where none does; `ok` says whether the record is sound
-// The tests of a route's first segment.
-fn first_segment_refusal<'a>(
+// The number of the first test of a route's first segment that holds, 0 where none does.
+pub fn first_segment_refusal<'a>(
     flags: &'a [u8; 62],
     allocations: &'a [u8; 62],
     limits: &'a [u16; 62],
@@ -37,55 +35,8 @@ fn first_segment_refusal<'a>(
     0
 }
 
-// The refusal's number, and the segment that is entered where it is 0: handed on, since to lend the tables again is to copy them.
-pub struct Entry {
-    pub number: u8,
-    pub first: u8,
-}
-
-pub fn enter_refusal(
-    ok: bool,
-    tables: Tables,
-    allocations: [u8; 62],
-    trains: [Train; 24],
-    train: u16,
-    route: u16,
-    speed: u16,
-) -> Entry
-    ensures { λ r. ⌜ (r .number ≡ firstOf (not ok ⇒ 11 ∷ entryTests tables allocations trains train route speed) .number) × (r .number ≡ 0 → r .first ≡ firstSegment tables route) ⌝ }
-{
-    if !ok {
-        return Entry {
-            number: 11,
-            first: 0,
-        };
-    }
-    if (train == 0) | (24 < train) {
-        return Entry {
-            number: 13,
-            first: 0,
-        };
-    }
-    let x = standing::train_at(trains, train as u8);
-    if 0 < x.route {
-        return Entry {
-            number: 14,
-            first: 0,
-        };
-    }
-    if (route == 0) | ((tables.routes as u16) < route) {
-        return Entry {
-            number: 16,
-            first: 0,
-        };
-    }
-    let first = lookups::segment_at(&tables.routebytes, route as u8, 1);
-    let number = first_segment_refusal(&tables.flags, &allocations, &tables.limits, first, speed);
-    Entry { number, first }
-}
-
 // On its route's last segment, which has the exit flag.
-fn at_exit<'a>(routebytes: &'a [u8; 960], flags: &'a [u8; 62], x: Train) -> bool
+pub fn at_exit<'a>(routebytes: &'a [u8; 960], flags: &'a [u8; 62], x: Train) -> bool
     ensures { λ r. ⌜ r ≡ (eqb (x .place) (countOf (now (routebytes .entry)) (x .route)) && eqb (at (now (flags .entry)) (ownIn (now (routebytes .entry)) x) / 2) 1) ⌝ }
 {
     let own = standing::own_of(routebytes, x);
@@ -93,26 +44,6 @@ fn at_exit<'a>(routebytes: &'a [u8; 960], flags: &'a [u8; 62], x: Train) -> bool
     (x.place == last) & (entry_u8(flags, own as usize) / 2 == 1)
 }
 
-pub fn leave_refusal(ok: bool, tables: Tables, trains: [Train; 24], train: u16) -> u8
-    ensures { λ r. ⌜ r ≡ firstOf (not ok ⇒ 11 ∷ exitTests tables trains train) .number ⌝ }
-{
-    if !ok {
-        return 11;
-    }
-    if (train == 0) | (24 < train) {
-        return 13;
-    }
-    let x = standing::train_at(trains, train as u8);
-    if x.route == 0 {
-        return 15;
-    }
-    if !at_exit(&tables.routebytes, &tables.flags, x) {
-        return 20;
-    }
-    0
-}
-
-// ---- what becomes of trains and allocations
 // Segment s becomes allocated to train t.
 pub fn taken_all(allocations: [u8; 62], s: u8, t: u8) -> [u8; 62]
     ensures { λ r. ⌜ r ≡ each (takenBy s t) allocations ⌝ }

@@ -22,6 +22,7 @@ use Rattle.trains.specs.EnterLeave.{firstSegment, takenBy, freedBy, becomes}
 use Rattle.trains.proofs.Segments.{own-occupied, occupied-own, wanted-ahead}
 use Rattle.trains.proofs.Safety.{TrainOk, frame, speed-ok, request-ok, grant-ok, position-ok, enter-ok}
 use Rattle.trains.proofs.Grant.{AsksFor, grant-keeps, grant-asked}
+use Rattle.trains.proofs.Calls.{sped-off, left-freed, others-stay, leaver-freed, others-kept}
 use Rattle.separation.specs.Runs.{History, put, atEnter, atLeave, atGrant, atPosition}
 use Rattle.separation.proofs.Kept.{Kept, route-some, on-same}
 
@@ -78,7 +79,7 @@ module _ (T : Tables) (K : Consistent T) (A : List ℕ) (X : List Train) (h : Hi
     pub keep-speed : Kept T A (each (sped T A wishes) X) requestDue h
     unfolding sped
     keep-speed =
-        step-keeps k (sped T A wishes) A requestDue (h .way) (h .granted) (omega arith) (k .segments) (λ t. refl)
+        step-keeps k (sped T A wishes) A requestDue (h .way) (h .granted) (omega arith) (k .segments) (λ t. sped-off T A wishes t off refl)
         (λ t x. if-case (λ (y : Train). y .route ≡ x .route) (isOn x) (λ e. refl) (λ e. refl))
         (λ t o. rw (on-same T A X speedDue h k t ∙ o) (speed-ok T K (at A) t (trainAt X t) (h .way t) (h .granted t) (k .ons t o) (at wishes t)))
         (k .holders)
@@ -156,16 +157,14 @@ module _ (T : Tables) (K : Consistent T) (A : List ℕ) (X : List Train) (h : Hi
     freed-look s = allocation-each (freed T X) A s (λ n. if-case (λ (x : ℕ). x ≡ 0) (released T (trainAt X 0) n) (λ e. refl) (λ e. refl))
 
     kept-of : (s t : ℕ) → at A s ≡ t → released T (trainAt X t) s ≡ false → at A″ s ≡ t
-    unfolding freed
-    kept-of s t e r = freed-look s ∙ rw (e, r)
+    kept-of s t e r = freed-look s ∙ rw e (others-stay T X s t r)
 
     of-kept : (s t : ℕ) → 1 ≤ t → at A″ s ≡ t → (at A s ≡ t) × (released T (trainAt X t) s ≡ false)
-    unfolding freed
     of-kept s t some e =
         let q : freed T X s (at A s) ≡ t = sym (freed-look s) ∙ e in
         by-test (released T (trainAt X (at A s)) s)
-        (λ r. let z : 0 ≡ t = rw r at q in absurd (omega arith))
-        (λ r. let z : at A s ≡ t = rw r at q in (z, rw z at r))
+        (λ r. let z : 0 ≡ t = sym (left-freed T X s (at A s) r) ∙ q in absurd (omega arith))
+        (λ r. let z : at A s ≡ t = sym (others-stay T X s (at A s) r) ∙ q in (z, rw z at r))
 
     pub keep-position :
         Kept T A″ (each (λ (t : ℕ). moved T) X) speedDue (atPosition h X)
@@ -194,14 +193,14 @@ module _ (T : Tables) (K : Consistent T) (A : List ℕ) (X : List Train) (h : Hi
 
     -- what is allocated to another train stays so
     other-held : (s u : ℕ) → (u ≡ t → ⊥) → at A s ≡ u → at leftA s ≡ u
-    other-held s u n e = free-look s ∙ rw (e, ne-eqb u t n)
+    other-held s u n e = free-look s ∙ rw e (others-kept t s u n)
 
     still-held : (s u : ℕ) → 1 ≤ u → at leftA s ≡ u → (at A s ≡ u) × (u ≡ t → ⊥)
     still-held s u some e =
         let q : freedBy t s (at A s) ≡ u = sym (free-look s) ∙ e in
         cases (eq-or-ne (at A s) t)
-        (λ z. let p : 0 ≡ u = rw (eq-eqb (at A s) t z) at q in absurd (omega arith))
-        (λ n. let p : at A s ≡ u = rw (ne-eqb (at A s) t n) at q in (p, λ z. n (p ∙ z)))
+        (λ z. let p : 0 ≡ u = sym (leaver-freed t s (at A s) z) ∙ q in absurd (omega arith))
+        (λ n. let p : at A s ≡ u = sym (others-kept t s (at A s) n) ∙ q in (p, λ z. n (p ∙ z)))
 
     pub keep-leave : Kept T leftA leftX due (atLeave h t)
     keep-leave =

@@ -3,3 +3,4 @@ pub mod Segments
 pub mod Safety
 pub mod Soundness
 pub mod Grant
+pub mod Calls

@@ -10,8 +10,8 @@ use Rattle.lists.proofs.Refusals.{outside, inside}
 use Rattle.trains.specs.declared.Train.{Train}
 use Rattle.trains.specs.Train.{mostTrains, trainAt, isOn, ownOf}
 use Rattle.trains.specs.EnterLeave.{isExit, isLast, noTrain}
-use Rattle.enter_leave.proofs.leave_refusal.Statement.{statement}
-use Rattle.enter_leave.proofs.leave_refusal.Tie as tie
+use Rattle.admission.proofs.leave_refusal.Statement.{statement}
+use Rattle.admission.proofs.leave_refusal.Tie as tie
 
 is-sound : (c : tie.Else1) → not (c .before .args .ok) ≡ false
 is-sound c = c .if1 .left

@@ -10,8 +10,8 @@ use borrow.Author.Needs.{needs}
 use Rattle.lists.proofs.Refusals.{outside, inside}
 use Rattle.trains.specs.Train.{mostTrains, trainAt, isOn}
 use Rattle.trains.specs.EnterLeave.{noTrain, noRoute}
-use Rattle.enter_leave.proofs.enter_refusal.Statement.{statement}
-use Rattle.enter_leave.proofs.enter_refusal.Tie as tie
+use Rattle.admission.proofs.enter_refusal.Statement.{statement}
+use Rattle.admission.proofs.enter_refusal.Tie as tie
 
 routes-fit : (s : tie.Start) → Fits w8 (s .args .t2 .routes)
 routes-fit s = search needs
