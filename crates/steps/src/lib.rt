@@ -6,7 +6,8 @@ ghost use Prim.Native.Nat.{_+_, _-_, min, max};
 ghost use lib.Dec.{eqb};
 ghost use Rattle.lists.specs.Words.{if_then_else_, at};
 ghost use Rattle.lists.specs.Tests.{_⇒_, firstOf};
-ghost use Rattle.trains.specs.Train.{ownIn};
+ghost use Rattle.trains.specs.Due.{speedDue};
+ghost use Rattle.trains.specs.Train.{mostTrains, ownIn};
 ghost use Rattle.trains.specs.Cycle.{upperEnd, newSpeed, spedAt, requestedAt, movesIn, movedIn};
 ghost use Rattle.steps.specs.Room.{Room};
 use lists::entry_u8;
@@ -28,7 +29,7 @@ pub fn step_refusal(ok: bool, due: u8, step: u8) -> u8
 }
 
 pub fn speed_refusal(ok: bool, due: u8, wishes: usize) -> u8
-    ensures { λ r. ⌜ r ≡ firstOf (not ok ⇒ 11 ∷ not (eqb due 0) ⇒ 12 ∷ not (eqb wishes 24) ⇒ 21 ∷ []) .number ⌝ }
+    ensures { λ r. ⌜ r ≡ firstOf (not ok ⇒ 11 ∷ not (eqb due speedDue) ⇒ 12 ∷ not (eqb wishes mostTrains) ⇒ 21 ∷ []) .number ⌝ }
 {
     if !ok {
         return 11;

@@ -4,7 +4,6 @@ use mathlib.Core.Path.{_≡_, sym}
 use mathlib.Core.Bool.{Bool, true}
 use mathlib.Core.List.{List}
 use native.Mathlib.Omega.{arith}
-use borrow.Author.Needs.{needs}
 use Rattle.lists.specs.Words.{every}
 use Rattle.lists.proofs.Cases.{test-fails, test-holds}
 use Rattle.lists.proofs.Loops.{every-none, every-more, every-fails}

@@ -8,7 +8,6 @@ use Rattle.lists.specs.Words.{at}
 use Rattle.lists.proofs.Cases.{cases}
 use Rattle.lists.proofs.Numbered.{long-of, nth-index, nth-replicate}
 use Rattle.lists.proofs.Loops.{Made, make-begin, make-more, make-keep, make-over}
-use Rattle.trains.specs.declared.Spot.{Spot}
 use Rattle.trains.specs.Train.{off}
 use Rattle.standing.specs.Spots.{noSpot, standsIn}
 use Rattle.trains.proofs.Laws.{train-off, train-on}
@@ -25,39 +24,6 @@ Inv-loop routebytes lengths limits allocations margin trains new₀ i₀ new i =
 abbrev μ-loop : tie.MeasureT-loop
 μ-loop routebytes lengths limits allocations margin trains new₀ i₀ new i = 24 - i
 
-no-spot-requires : tie.Need-no-spot-requires Inv-loop μ-loop
-no-spot-requires c κs = search needs
-
-loop-holds : tie.Need-loop-holds Inv-loop μ-loop
-loop-holds c = rw (c .no-spot .ensures) (make-begin (search long-of) (length-replicate 24 noSpot))
-
-mul-x : tie.Need-mul-x Inv-loop μ-loop
-mul-x c = omega arith
-
-array-copy-out-x : tie.Need-array-copy-out-x Inv-loop μ-loop
-array-copy-out-x c = omega arith
-
-add-spot-of : tie.Need-add-spot-of Inv-loop μ-loop
-add-spot-of c = omega arith
-
-cast-spot-of : tie.Need-cast-spot-of Inv-loop μ-loop
-cast-spot-of c = omega arith
-
-spot-of-requires : tie.Need-spot-of-requires Inv-loop μ-loop
-spot-of-requires c κs = search needs
-
-mul-new : tie.Need-mul-new Inv-loop μ-loop
-mul-new c = omega arith
-
-array-set-from-new : tie.Need-array-set-from-new Inv-loop μ-loop
-array-set-from-new c = omega arith
-
-add-i : tie.Need-add-i Inv-loop μ-loop
-add-i c = omega arith
-
-loop-less : tie.Need-loop-less Inv-loop μ-loop
-loop-less c = omega arith
-
 loop-again : tie.Need-loop-again Inv-loop μ-loop
 loop-again c =
     let l = c .before .before .before in
@@ -65,25 +31,9 @@ loop-again c =
     (λ w. rw (w .2) (make-more (l .before .loop .inv) off (l .loop-test .taken) (rw (train-on (w .0 .taken)) (w .1 .ensures))))
     (λ w. rw (w .1) (make-keep (l .before .loop .inv) off noSpot (l .loop-test .taken) (rw (train-off (w .0 .left)) (blank-at (l .before .loop .i)))))
 
-returns : tie.Need-returns Inv-loop μ-loop
-returns c = make-over (c .before .loop .inv) (c .loop-test .left)
-
 pub spots-of-spec : {M : Type 1} → statement M
 spots-of-spec =
     tie.close
-    (tie.spec
-    Inv-loop
-    μ-loop
-    no-spot-requires
-    loop-holds
-    mul-x
-    array-copy-out-x
-    add-spot-of
-    cast-spot-of
-    spot-of-requires
-    mul-new
-    array-set-from-new
-    add-i
-    loop-less
-    loop-again
-    returns)
+    (tie.spec Inv-loop μ-loop (λ c κs. search needs) (λ c. rw (c .no-spot .ensures) (make-begin (search long-of) (length-replicate 24 noSpot)))
+    (λ c. omega arith) (λ c. omega arith) (λ c. omega arith) (λ c. omega arith) (λ c κs. search needs) (λ c. omega arith) (λ c. omega arith)
+    (λ c. omega arith) (λ c. omega arith) loop-again (λ c. make-over (c .before .loop .inv) (c .loop-test .left)))
