@@ -22,7 +22,7 @@ use Rattle.trains.specs.EnterLeave.{firstSegment, takenBy, freedBy, becomes}
 use Rattle.trains.proofs.Segments.{own-occupied, occupied-own, wanted-ahead}
 use Rattle.trains.proofs.Safety.{TrainOk, frame, speed-ok, request-ok, grant-ok, position-ok, enter-ok}
 use Rattle.trains.proofs.Grant.{AsksFor, grant-keeps, grant-asked}
-use Rattle.trains.proofs.Calls.{sped-off, left-freed, others-stay, leaver-freed, others-kept}
+use Rattle.trains.proofs.Calls.{sped-off, left-freed, others-stay, leaver-freed, others-kept, named-becomes, others-same}
 use Rattle.separation.specs.Runs.{History, put, atEnter, atLeave, atGrant, atPosition}
 use Rattle.separation.proofs.Kept.{Kept, route-some, on-same}
 
@@ -210,14 +210,14 @@ module _ (T : Tables) (K : Consistent T) (A : List ℕ) (X : List Train) (h : Hi
           numbers = length-each (becomes t off) X ∙ k .numbers;
           offs =
               λ u o.
-              cases (eq-or-ne u t) (λ e. left-look u ∙ rw (eq-eqb u t e))
-              (λ n. left-look u ∙ rw (ne-eqb u t n) (k .offs u (sym (put-other (h .on) t false u n) ∙ o)));
-          routes = λ u o. let p = was u o in rw (left-look u, ne-eqb u t (p .0)) (k .routes u (p .1));
+              cases (eq-or-ne u t) (λ e. left-look u ∙ named-becomes t off u (trainAt X u) e)
+              (λ n. left-look u ∙ (others-same t off u (trainAt X u) n ∙ k .offs u (sym (put-other (h .on) t false u n) ∙ o)));
+          routes = λ u o. let p = was u o in rw (left-look u, others-same t off u (trainAt X u) (p .0)) (k .routes u (p .1));
           ons =
               λ u o.
               let p = was u o in
               let some = number-some u X (route-some T A X due h k u (p .1)) in
-              rw (left-look u, ne-eqb u t (p .0))
+              rw (left-look u, others-same t off u (trainAt X u) (p .0))
               (frame T K (k .ons u (p .1)) (λ s e. other-held s u (p .0) e) (λ s e. still-held s u some e .0) (λ s e. e));
           holders =
               λ s some.

@@ -1,22 +1,30 @@
--- What speed, position and leave do to one train and to one allocation, in the paper's words.
+-- What speed, request, position, enter and leave do to one train and to one allocation, in the paper's words.
 use Prim.Native.Nat.{ℕ, _≤_}
-use mathlib.Core.Path.{_≡_}
-use mathlib.Core.Bool.{true, false, not, _&&_}
+use mathlib.Core.Path.{_≡_, ap}
+use mathlib.Core.Bool.{Bool, true, false, not, _&&_}
 use mathlib.Core.List.{List}
 use native.Mathlib.Omega.{arith}
 use borrow.Author.Tests.{eq-eqb, ne-eqb}
+use Rattle.lists.specs.Words.{if_then_else_, at}
 use Rattle.lists.proofs.Cases.{if-case}
 use Rattle.tables.specs.declared.Tables.{Tables}
 use Rattle.trains.specs.declared.Train.{Train}
 use Rattle.trains.specs.declared.Spot.{Spot}
-use Rattle.trains.specs.Train.{trainAt, isOn}
-use Rattle.trains.specs.Cycle.{low, newSpeed, sped, released, freed}
-use Rattle.trains.specs.EnterLeave.{freedBy}
+use Rattle.trains.specs.Train.{withSpeed, withAsking, trainAt, isOn}
+use Rattle.trains.specs.Spot.{spotOf}
+use Rattle.trains.specs.Cycle.{low, newSpeed, sped, wants, requested, released, freed}
+use Rattle.trains.specs.EnterLeave.{freedBy, becomes}
 
 -- THE CLAIM: entries of trains off are ignored
 pub sped-off : (T : Tables) (A wishes : List ℕ) (t : ℕ) (x : Train) → isOn x ≡ false → sped T A wishes t x ≡ x
 unfolding sped
-sped-off T A wishes t x off = rw off
+sped-off T A wishes t x off =
+    ap (λ (on : Bool). if on then withSpeed x (newSpeed (T .braking) (spotOf T (at A) t x) x (at wishes t)) else x) off
+
+-- THE CLAIM: a train on asks after request exactly when it is near and has a next that isn't allocated to it
+pub asks-when : (T : Tables) (A : List ℕ) (t : ℕ) (x : Train) → isOn x ≡ true → requested T A t x .asks ≡ wants (spotOf T (at A) t x)
+unfolding requested
+asks-when T A t x on = ap (λ (q : Bool). (if q then withAsking x (wants (spotOf T (at A) t x)) else x) .asks) on
 
 -- THE CLAIM: a wish below low goes to low: no cycle takes more than `b` off a speed
 pub speed-low : (b : ℕ) (p : Spot) (x : Train) (wish : ℕ) → low b x ≤ newSpeed b p x wish
@@ -27,16 +35,24 @@ speed-low b p x wish = if-case (λ (v : ℕ). low b x ≤ v) (p .near && not (p 
 module _ (T : Tables) (trains : List Train) (s h : ℕ) where
   pub left-freed : released T (trainAt trains h) s ≡ true → freed T trains s h ≡ 0
   unfolding freed
-  left-freed r = rw r
+  left-freed r = ap (λ (left : Bool). if left then 0 else h) r
 
   pub others-stay : released T (trainAt trains h) s ≡ false → freed T trains s h ≡ h
   unfolding freed
-  others-stay r = rw r
+  others-stay r = ap (λ (left : Bool). if left then 0 else h) r
 
 -- THE CLAIM: all that is allocated to a train that leaves is freed, and what is allocated to another stays
 module _ (t s h : ℕ) where
   pub leaver-freed : h ≡ t → freedBy t s h ≡ 0
-  leaver-freed e = rw (eq-eqb h t e)
+  leaver-freed e = ap (λ (its : Bool). if its then 0 else h) (eq-eqb h t e)
 
   pub others-kept : (h ≡ t → ⊥) → freedBy t s h ≡ h
-  others-kept n = rw (ne-eqb h t n)
+  others-kept n = ap (λ (its : Bool). if its then 0 else h) (ne-eqb h t n)
+
+-- THE CLAIM: the train that enters or leaves becomes what enter and leave make of it, and no other train does
+module _ (t : ℕ) (x : Train) (n : ℕ) (old : Train) where
+  pub named-becomes : n ≡ t → becomes t x n old ≡ x
+  named-becomes e = ap (λ (named : Bool). if named then x else old) (eq-eqb n t e)
+
+  pub others-same : (n ≡ t → ⊥) → becomes t x n old ≡ old
+  others-same e = ap (λ (named : Bool). if named then x else old) (ne-eqb n t e)

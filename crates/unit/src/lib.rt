@@ -42,9 +42,7 @@ pub extern "C" fn rbu_load(file: &[u8], place: &mut u16) -> u8
 pub extern "C" fn rbu_view(file: &[u8], route: u16, start: &mut u32, count: &mut u32)
     ensures { λ _. ⌜ (now (start .exit) ≡ viewStart (now (file .entry)) route) × (now (count .exit) ≡ viewCount (now (file .entry)) route) ⌝ }
 {
-    let view = view::view_of(file, route);
-    *start = view.start;
-    *count = view.count;
+    view::tell_view(file, route, start, count);
 }
 
 // ---- a list of calls from a file

@@ -40,6 +40,15 @@ pub fn view_of(file: &[u8], route: u16) -> Part
     }
 }
 
+// The same two numbers, through references.
+pub fn tell_view(file: &[u8], route: u16, start: &mut u32, count: &mut u32)
+    ensures { λ _. ⌜ (now (start .exit) ≡ viewStart (now (file .entry)) route) × (now (count .exit) ≡ viewCount (now (file .entry)) route) ⌝ }
+{
+    let view = view_of(file, route);
+    *start = view.start;
+    *count = view.count;
+}
+
 // The part of the file that lists the route's segments; the empty part at its start where there is none to show.
 pub fn route_view(file: &[u8], route: u16) -> &[u8]
     ensures { λ r. ⌜ PartAt (file .entry) r (viewStart (now (file .entry)) route) (viewCount (now (file .entry)) route) ⌝ }
