@@ -82,6 +82,7 @@ fn train_sound(routes: u8, braking: u16, margin: u32, due: u8, spot: Spot, x: Tr
     braking_sound(braking, margin, due, spot, x) & asking_sound(due, spot, x)
 }
 
+// Tables are tested first: of consistent tables S(`gmax`) ≤ `d`, which gives what is asked here.
 pub fn trains_sound(
     routes: u8,
     braking: u16,
