@@ -4,8 +4,8 @@
 //
 //     stack FILE ..
 //
-// It prints the bytes of each function and the figure of it in rbu.h, and fails where a function takes more, where the figure
-// is far too great, and where the inputs miss an answer, since it would then have measured less than there is.
+// It prints the bytes of each function and the figure for it in rbu.h, and fails where a function takes more, where a figure
+// is far too great for all that it is for, and where the inputs miss an answer, since it would then have measured less than there is.
 #define _XOPEN_SOURCE 700
 #include <stdio.h>
 #include <string.h>
@@ -13,7 +13,7 @@
 
 #include "rbu.h"
 
-enum { STACK = 256 * 1024, CYCLES = 300, MOST_CALLS = 64 + CYCLES * 32, ANSWERS = 22 };
+enum { STACK = 256 * 1024, CYCLES = 300, MOST_CALLS = 64 + CYCLES * 32, ANSWERS = 22, KINDS = 7 };
 
 // ---- what the functions are handed, and what they give
 
@@ -30,21 +30,48 @@ static size_t ran;
 static uint8_t number, allocated, free_segment;
 static uint16_t place;
 static uint32_t start, count;
-static bool is_sound;
+static bool sound_record;
+// a kept record, before a call and after it, and the call's record
+static struct rbu_area before, kept;
+static const uint16_t *items;
 
 static void nothing(void) {}
+static void start_area(void) { number = rbu_start(&kept, file, file_length, &place); }
+static void enter(void) {
+    kept = before;
+    number = rbu_enter(&kept, items[1], items[2], items[3]);
+}
+static void leave(void) {
+    kept = before;
+    number = rbu_leave(&kept, items[1]);
+}
+static void speed(void) {
+    kept = before;
+    number = rbu_speed(&kept, items + 7, items[6]);
+}
+static void request(void) {
+    kept = before;
+    number = rbu_request(&kept);
+}
+static void grant(void) {
+    kept = before;
+    number = rbu_grant(&kept);
+}
+static void position(void) {
+    kept = before;
+    number = rbu_position(&kept);
+}
+static void report(void) { number = rbu_report(&kept, &allocated, &free_segment); }
+static void is_sound(void) { sound_record = rbu_is_sound(&kept); }
 static void load(void) { number = rbu_load(file, file_length, &place); }
 static void view(void) { rbu_view(file, file_length, route, &start, &count); }
 static void run_file(void) {
     ran = rbu_run_file(file, file_length, script, calls * RBU_CALL_ITEMS, answers, answers_length, state, state_length, &number, &place);
 }
-static void report_file(void) {
-    number = rbu_report_file(file, file_length, script, calls * RBU_CALL_ITEMS, answers, answers_length, &allocated, &free_segment);
-}
 static void run_record(void) {
     ran = rbu_run_record(file, file_length, script, calls * RBU_CALL_ITEMS, answers, answers_length, state, state_length);
 }
-static void sound(void) { is_sound = rbu_sound(file, file_length, state, state_length); }
+static void sound(void) { sound_record = rbu_sound(file, file_length, state, state_length); }
 static void report_record(void) {
     number = rbu_report_record(file, file_length, state, state_length, &allocated, &free_segment);
 }
@@ -82,9 +109,28 @@ static size_t bytes(void (*function)(void)) {
 
 // ---- the functions, and the figures of rbu.h
 
-enum { LOAD, VIEW, RUN_FILE, REPORT_FILE, RUN_RECORD, SOUND, REPORT_RECORD, BRAKING_DISTANCE, FUNCTIONS };
+// The six calls have the numbers of their kinds. Functions with one figure stand together.
+enum {
+    START,
+    ENTER,
+    LEAVE,
+    SPEED,
+    REQUEST,
+    GRANT,
+    POSITION,
+    REPORT,
+    IS_SOUND,
+    LOAD,
+    VIEW,
+    RUN_FILE,
+    RUN_RECORD,
+    SOUND,
+    REPORT_RECORD,
+    BRAKING_DISTANCE,
+    FUNCTIONS
+};
 
-#define ROW(NAME, function) [NAME] = {"rbu_" #function, "RBU_STACK_" #NAME, function, RBU_STACK_##NAME, 0}
+#define ROW(function, run, FIGURE) {#function, "RBU_STACK_" #FIGURE, run, RBU_STACK_##FIGURE, 0}
 
 static struct {
     const char *name;
@@ -93,14 +139,22 @@ static struct {
     size_t figure;
     size_t most;
 } functions[FUNCTIONS] = {
-    ROW(LOAD, load),
-    ROW(VIEW, view),
-    ROW(RUN_FILE, run_file),
-    ROW(REPORT_FILE, report_file),
-    ROW(RUN_RECORD, run_record),
-    ROW(SOUND, sound),
-    ROW(REPORT_RECORD, report_record),
-    ROW(BRAKING_DISTANCE, braking_distance),
+    [START] = ROW(rbu_start, start_area, START),
+    [ENTER] = ROW(rbu_enter, enter, CALL),
+    [LEAVE] = ROW(rbu_leave, leave, CALL),
+    [SPEED] = ROW(rbu_speed, speed, CALL),
+    [REQUEST] = ROW(rbu_request, request, CALL),
+    [GRANT] = ROW(rbu_grant, grant, CALL),
+    [POSITION] = ROW(rbu_position, position, CALL),
+    [REPORT] = ROW(rbu_report, report, CALL),
+    [IS_SOUND] = ROW(rbu_is_sound, is_sound, CALL),
+    [LOAD] = ROW(rbu_load, load, LOAD),
+    [VIEW] = ROW(rbu_view, view, VIEW),
+    [RUN_FILE] = ROW(rbu_run_file, run_file, RUN_FILE),
+    [RUN_RECORD] = ROW(rbu_run_record, run_record, RUN_RECORD),
+    [SOUND] = ROW(rbu_sound, sound, SOUND),
+    [REPORT_RECORD] = ROW(rbu_report_record, report_record, REPORT_RECORD),
+    [BRAKING_DISTANCE] = ROW(rbu_braking_distance, braking_distance, BRAKING_DISTANCE),
 };
 
 // The first run is not measured: in it the C library finds its own functions, and takes stack for that once.
@@ -148,7 +202,8 @@ static void write_script(void) {
 
 // ---- what was met: each answer by its number, and each of the six calls answered done
 
-static bool met[ANSWERS], done[7];
+static bool met[ANSWERS], done[KINDS];
+static bool met_kept[ANSWERS], done_kept[KINDS];
 
 static void note_answers(void) {
     for (size_t k = 0; k < ran; k++) {
@@ -157,7 +212,31 @@ static void note_answers(void) {
     }
 }
 
+// Calls of the script on the kept record, one by one: measured are the first two of each kind with each answer.
+static void run_kept(size_t count_of_calls) {
+    unsigned seen[KINDS][ANSWERS] = {{0}};
+    for (size_t k = 0; k < count_of_calls; k++) {
+        items = script + k * RBU_CALL_ITEMS;
+        before = kept;
+        functions[items[0]].function();
+        met_kept[number] = true;
+        if (number == 0) done_kept[items[0]] = true;
+        if (++seen[items[0]][number] > 2) continue;
+        measure(items[0]);
+        measure(REPORT);
+        measure(IS_SOUND);
+    }
+}
+
 static void run_all(void) {
+    measure(START);
+    met_kept[number] = true;
+    run_kept(calls);
+    // another step due, and none
+    for (int due = 0; due <= 4; due++) {
+        kept.due = (uint8_t)due;
+        run_kept(64);
+    }
     measure(LOAD);
     met[number] = true;
     for (route = 0; route <= 31; route += 1) measure(VIEW);
@@ -165,7 +244,6 @@ static void run_all(void) {
     state_length = sizeof state;
     measure(RUN_FILE);
     note_answers();
-    measure(REPORT_FILE);
     // a record that the list has led to, the same with another step due, one with no step due, and one cut short
     measure(SOUND);
     measure(REPORT_RECORD);
@@ -181,7 +259,6 @@ static void run_all(void) {
     note_answers();
     answers_length = state_length = 1;
     measure(RUN_FILE);
-    measure(REPORT_FILE);
     measure(RUN_RECORD);
     measure(SOUND);
     measure(REPORT_RECORD);
@@ -202,21 +279,27 @@ int main(int count_of_names, char **names) {
         run_all();
     }
     for (int n = 0; n < ANSWERS; n++) {
-        if (met[n]) continue;
-        printf("stack: no input is answered %d\n", n);
+        if (met[n] && met_kept[n]) continue;
+        printf("stack: no input is answered %d%s\n", n, met[n] ? " on a kept record" : "");
         failed = 1;
     }
-    for (int kind = 1; kind <= 6; kind++) {
-        if (done[kind]) continue;
-        printf("stack: no call of kind %d is answered done\n", kind);
+    for (int kind = 1; kind < KINDS; kind++) {
+        if (done[kind] && done_kept[kind]) continue;
+        printf("stack: no call of kind %d is answered done%s\n", kind, done[kind] ? " on a kept record" : "");
         failed = 1;
     }
+    size_t most = 0;
     for (int k = 0; k < FUNCTIONS; k++) {
-        size_t most = functions[k].most, figure = functions[k].figure, fit = figure_for(most);
-        printf("stack: %s takes %zu bytes; rbu.h says %zu\n", functions[k].name, most, figure);
-        if (most <= figure && figure <= fit + 1024) continue;
-        printf("stack: rbu.h should say: #define %s %zu\n", functions[k].figure_name, fit);
-        failed = 1;
+        printf("stack: %s takes %zu bytes; rbu.h says %zu\n", functions[k].name, functions[k].most, functions[k].figure);
+        if (most < functions[k].most) most = functions[k].most;
+        // the figure is held to the most of those that it is for
+        if (k + 1 < FUNCTIONS && strcmp(functions[k].figure_name, functions[k + 1].figure_name) == 0) continue;
+        size_t figure = functions[k].figure, fit = figure_for(most);
+        if (most > figure || figure > fit + 1024) {
+            printf("stack: rbu.h should say: #define %s %zu\n", functions[k].figure_name, fit);
+            failed = 1;
+        }
+        most = 0;
     }
     return failed;
 }

@@ -1,56 +1,130 @@
-// How a C program uses the core: what `replay` does, without its refusals of an input that does not fit. It reads an area file
-// and after it a script from standard input, and prints the answers and the state after them.
+// How a unit's program uses the core: one record, started with an area file, and then calls as they come, each by its own function.
+// File and calls come from standard input, a call as a record of 64 bytes (docs/FORMATS.md). Standard output is what `replay` prints
+// for the same input; each refusal is named on standard error. The exit status is 1 where the file is refused.
 //
-//     rt staticlib unit
-//     cc -Iinclude include/example.c target/staticlib/libunit.a -o target/example
+//     rt staticlib rbu
+//     cc -Iinclude include/example.c target/staticlib/librbu.a -o target/example
 //     (target/reference/release/areas area_a; target/reference/release/script <docs/scenarios/merge.txt) | target/example
 #include <stdio.h>
 
 #include "rbu.h"
 
-enum { MOST_CALLS = 1000 };
+// The unit's record. It is read here, and only the functions of rbu.h write it.
+static struct rbu_area area;
 
-static uint8_t input[RBU_FILE_SIZE + MOST_CALLS * RBU_CALL_ITEMS * 2];
-static uint16_t script[MOST_CALLS * RBU_CALL_ITEMS];
-static uint8_t answers[MOST_CALLS];
-static uint8_t state[RBU_STATE_SIZE];
-
-// Numbers in a state are little-endian, whatever the machine is.
-static uint32_t number_at(const uint8_t *bytes, int count) {
-    uint32_t number = 0;
-    while (count-- > 0) number = number << 8 | bytes[count];
-    return number;
+// Document 01's word for an answer. The compiler warns where the header has one more.
+static const char *word(enum rbu_answer answer) {
+    switch (answer) {
+    case RBU_ANSWER_DONE: return "done";
+    case RBU_ANSWER_SIZE: return "size";
+    case RBU_ANSWER_DAMAGED: return "damaged";
+    case RBU_ANSWER_MISFILED: return "misfiled";
+    case RBU_ANSWER_HEADER: return "header";
+    case RBU_ANSWER_MARGIN: return "margin";
+    case RBU_ANSWER_SEGMENT: return "segment";
+    case RBU_ANSWER_JOINT: return "joint";
+    case RBU_ANSWER_ORDER: return "order";
+    case RBU_ANSWER_DROP: return "drop";
+    case RBU_ANSWER_ROUTE: return "route";
+    case RBU_ANSWER_UNSOUND: return "unsound";
+    case RBU_ANSWER_TURN: return "turn";
+    case RBU_ANSWER_TRAIN: return "train";
+    case RBU_ANSWER_ALREADY_ON: return "already on";
+    case RBU_ANSWER_NOT_ON: return "not on";
+    case RBU_ANSWER_ROUTE_NUMBER: return "route number";
+    case RBU_ANSWER_NO_ENTRY: return "no entry";
+    case RBU_ANSWER_TAKEN: return "taken";
+    case RBU_ANSWER_TOO_FAST: return "too fast";
+    case RBU_ANSWER_NO_EXIT: return "no exit";
+    case RBU_ANSWER_WISHES: return "wishes";
+    }
+    return "no such answer";
 }
 
+// ---- a call as it comes in: its kind, and the items of its record that it uses
+
+enum { ENTER = 1, LEAVE = 2, SPEED = 3, REQUEST = 4, GRANT = 5, POSITION = 6 };
+enum { KIND = 0, OF_TRAIN = 1, ON_ROUTE = 2, AT_SPEED = 3, WISHES = 6, FIRST_WISH = 7 };
+
+// Reads the next record; false where no whole one is left. Its items are little-endian, whatever the machine is.
+static bool next_call(uint16_t items[RBU_CALL_ITEMS]) {
+    uint8_t bytes[2 * RBU_CALL_ITEMS];
+    if (fread(bytes, sizeof bytes, 1, stdin) != 1) return false;
+    for (int i = 0; i < RBU_CALL_ITEMS; i++) items[i] = (uint16_t)(bytes[2 * i] | bytes[2 * i + 1] << 8);
+    return true;
+}
+
+static bool is_of_a_kind(const uint16_t *items) { return ENTER <= items[KIND] && items[KIND] <= POSITION; }
+
+// A record has room for 25 wishes.
+static size_t wishes_of(const uint16_t *items) {
+    size_t room = RBU_CALL_ITEMS - FIRST_WISH;
+    return items[WISHES] < room ? items[WISHES] : room;
+}
+
+static uint8_t run(const uint16_t *items) {
+    switch (items[KIND]) {
+    case ENTER: return rbu_enter(&area, items[OF_TRAIN], items[ON_ROUTE], items[AT_SPEED]);
+    case LEAVE: return rbu_leave(&area, items[OF_TRAIN]);
+    case SPEED: return rbu_speed(&area, items + FIRST_WISH, wishes_of(items));
+    case REQUEST: return rbu_request(&area);
+    case GRANT: return rbu_grant(&area);
+    default: return rbu_position(&area);
+    }
+}
+
+static void name_refusal(unsigned long call, const uint16_t *items, uint8_t number) {
+    fprintf(stderr, "call %lu: ", call);
+    switch (items[KIND]) {
+    case ENTER: fprintf(stderr, "enter %u %u %u", items[OF_TRAIN], items[ON_ROUTE], items[AT_SPEED]); break;
+    case LEAVE: fprintf(stderr, "leave %u", items[OF_TRAIN]); break;
+    case SPEED: fprintf(stderr, "speed with %u wishes", (unsigned)wishes_of(items)); break;
+    case REQUEST: fprintf(stderr, "request"); break;
+    case GRANT: fprintf(stderr, "grant"); break;
+    default: fprintf(stderr, "position"); break;
+    }
+    fprintf(stderr, ": refused, %u %s\n", number, word((enum rbu_answer)number));
+}
+
+// ---- where everything stands
+
 static void print_state(void) {
-    printf("due %u\n", state[0]);
-    for (int t = 1; t <= 24; t++) {
-        const uint8_t *train = state + 32 + 32 * t;
-        if (train[0] == 0) continue;
-        printf("train %d route %u place %u position %u speed %u asks %u\n", t, train[0], train[1],
-               (unsigned)number_at(train + 4, 4), (unsigned)number_at(train + 8, 2), train[2]);
+    printf("due %u\n", area.due);
+    for (int t = 1; t <= RBU_TRAINS; t++) {
+        const struct rbu_train *train = &area.trains[t - 1];
+        if (train->route == 0) continue;
+        printf("train %d route %u place %u position %lu speed %u asks %u\n", t, train->route, train->place,
+               (unsigned long)train->position, train->speed, train->asks);
     }
-    for (int s = 1; s <= 62; s++) {
-        if (state[s] != 0) printf("allocation %d %u\n", s, state[s]);
+    for (int s = 1; s <= RBU_SEGMENTS; s++) {
+        if (area.allocations[s - 1] != 0) printf("allocation %d %u\n", s, area.allocations[s - 1]);
     }
+    uint8_t allocated, free_segment;
+    rbu_report(&area, &allocated, &free_segment);
+    printf("report %u %u\n", allocated, free_segment);
 }
 
 int main(void) {
-    size_t size = fread(input, 1, sizeof input, stdin);
-    size_t file_size = size < RBU_FILE_SIZE ? size : RBU_FILE_SIZE;
-    size_t items = (size - file_size) / 2;
-    for (size_t i = 0; i < items; i++) script[i] = (uint16_t)number_at(input + file_size + 2 * i, 2);
-
-    uint8_t number;
+    static uint8_t file[RBU_FILE_SIZE];
+    size_t size = fread(file, 1, sizeof file, stdin);
     uint16_t place;
-    size_t calls = rbu_run_file(input, file_size, script, items, answers, sizeof answers, state, sizeof state, &number, &place);
+    uint8_t number = rbu_start(&area, file, size, &place);
     printf("load %u %u\n", number, place);
-    if (number != 0) return 1;
-    for (size_t k = 0; k < calls; k++) printf("%u\n", answers[k]);
-    print_state();
+    if (number != RBU_ANSWER_DONE) {
+        fprintf(stderr, "load: refused, %u %s, place %u\n", number, word((enum rbu_answer)number), place);
+        return 1;
+    }
 
-    uint8_t allocated, free_segment;
-    rbu_report_record(input, file_size, state, sizeof state, &allocated, &free_segment);
-    printf("report %u %u\n", allocated, free_segment);
+    uint16_t items[RBU_CALL_ITEMS];
+    for (unsigned long call = 1; next_call(items); call++) {
+        if (!is_of_a_kind(items)) {
+            fprintf(stderr, "call %lu: of kind %u; kinds are 1 to 6, and the list ends here\n", call, items[KIND]);
+            break;
+        }
+        number = run(items);
+        printf("%u\n", number);
+        if (number != RBU_ANSWER_DONE) name_refusal(call, items, number);
+    }
+    print_state();
     return 0;
 }

@@ -1,9 +1,21 @@
-// The core of the radio block unit for C: link libunit.a, which `rt staticlib unit` writes.
+// The core of the radio block unit for C: link librbu.a, which `rt staticlib rbu` writes.
 //
-// What each function does is its contract in crates/unit/src/lib.rt, which is proved. The layouts are in docs/FORMATS.md.
-// A slice is two arguments, a pointer and how many entries it has. No pointer is NULL, also where there are 0 entries; it is
-// aligned for its type, and lends that many entries for the time of the call. What a pointer that is not const points at
-// overlaps nothing else that the call is handed. Nothing is kept after a call, and nothing is allocated.
+// What each function does is its contract in crates/rbu/src/lib.rt, which is proved. The layouts are in docs/FORMATS.md.
+//
+// A running unit keeps one record of an area. Start it with rbu_start, hand it to each call as the last one left it, and let nothing
+// else write it: then what the inspectorate asked for holds after every call, refused ones included. No two trains are on one
+// segment, and the rest of demand 3 (README.md).
+//
+// - Sound means that a record meets every condition of document 01's "A sound record". A record that was started and handed on is
+//   sound; on one that is not, every call answers RBU_ANSWER_UNSOUND and changes nothing.
+// - Memory: nothing is allocated, nothing is kept after a call, and there are no globals. The archive needs two functions of the C
+//   library, memcpy and memset. It is for x86-64 and its C calling convention.
+// - Threads: a function touches what it is handed and nothing else. Two threads may run calls on two records at the same time; on one
+//   record, one call at a time.
+// - Slices are two arguments, a pointer and how many entries it has. A length of 0 goes with any pointer, NULL too. Every other
+//   pointer is not NULL, is aligned for its type, and lends that many entries for the time of the call. What a pointer that is not
+//   const points at overlaps nothing else that the call is handed. (That an empty slice may be NULL is tried by the tests; the machine
+//   that the proofs speak of has no NULL.)
 #ifndef RBU_H
 #define RBU_H
 
@@ -20,14 +32,122 @@ extern "C" {
 #define RBU_STATE_SIZE 832
 #define RBU_CALL_ITEMS 32
 
-// The stack that a call of each function takes, in bytes, on x86-64. No theorem bounds it: it is measured, on a painted stack, with
-// lists of thousands of calls and every answer among them. The figures have a quarter to spare; the tests measure it again and
-// hold them to it (.ci/stack.c).
+// Segments, routes and trains of an area, at the most; wishes of a speed step.
+#define RBU_SEGMENTS 62
+#define RBU_ROUTES 30
+#define RBU_TRAINS 24
+
+// The answers: done, what load finds of a file (1 to 10), the refusals of calls (11 to 21).
+enum rbu_answer {
+    RBU_ANSWER_DONE = 0,
+    RBU_ANSWER_SIZE = 1,
+    RBU_ANSWER_DAMAGED = 2,
+    RBU_ANSWER_MISFILED = 3,
+    RBU_ANSWER_HEADER = 4,
+    RBU_ANSWER_MARGIN = 5,
+    RBU_ANSWER_SEGMENT = 6,
+    RBU_ANSWER_JOINT = 7,
+    RBU_ANSWER_ORDER = 8,
+    RBU_ANSWER_DROP = 9,
+    RBU_ANSWER_ROUTE = 10,
+    RBU_ANSWER_UNSOUND = 11,
+    RBU_ANSWER_TURN = 12,
+    RBU_ANSWER_TRAIN = 13,
+    RBU_ANSWER_ALREADY_ON = 14,
+    RBU_ANSWER_NOT_ON = 15,
+    RBU_ANSWER_ROUTE_NUMBER = 16,
+    RBU_ANSWER_NO_ENTRY = 17,
+    RBU_ANSWER_TAKEN = 18,
+    RBU_ANSWER_TOO_FAST = 19,
+    RBU_ANSWER_NO_EXIT = 20,
+    RBU_ANSWER_WISHES = 21
+};
+
+// The steps of a cycle, in their order.
+enum rbu_due { RBU_DUE_SPEED = 0, RBU_DUE_REQUEST = 1, RBU_DUE_GRANT = 2, RBU_DUE_POSITION = 3 };
+
+// ---- a running unit: one record, one call at a time
+
+// The record. The caller keeps it: 2,012 bytes, aligned to 4. Its fields are there to be read; only the functions below write it.
+// Any bytes at all are a record: one that was damaged is answered RBU_ANSWER_UNSOUND, or it is sound and its calls are those of
+// document 01, but that it is the record of the run is then no longer said. Padding is never looked at.
+
+// A train: route and place in it, counted from 1; route 0 is a train off, which is all zero. Position in its segment in decimetres,
+// speed in decimetres per cycle; asks is 1 between request and grant where it asks for its next segment, and 0 otherwise.
+struct rbu_train {
+    uint8_t route;
+    uint8_t place;
+    uint32_t position;
+    uint16_t speed;
+    uint8_t asks;
+};
+
+// The tables of the file: N, R, `gmax`, `b` and `d`; then a slot for each segment, two for its next and two for its previous links,
+// and the route records of 32 bytes each, the count and then the segment numbers.
+struct rbu_tables {
+    uint8_t segments;
+    uint8_t routes;
+    uint16_t gmax;
+    uint16_t braking;
+    uint32_t margin;
+    uint32_t lengths[RBU_SEGMENTS];
+    uint16_t limits[RBU_SEGMENTS];
+    uint8_t next[2 * RBU_SEGMENTS];
+    uint8_t previous[2 * RBU_SEGMENTS];
+    uint8_t flags[RBU_SEGMENTS];
+    uint8_t routebytes[32 * RBU_ROUTES];
+};
+
+// Segment s has the allocation allocations[s - 1], 0 or the number of the train that it is allocated to; train t is trains[t - 1].
+// `due` is one of enum rbu_due.
+struct rbu_area {
+    struct rbu_tables tables;
+    uint8_t allocations[RBU_SEGMENTS];
+    struct rbu_train trains[RBU_TRAINS];
+    uint8_t due;
+};
+
+#define RBU_AREA_SIZE 2012
+#define RBU_AREA_ALIGNMENT 4
+
+#ifdef __cplusplus
+static_assert(sizeof(struct rbu_area) == RBU_AREA_SIZE && alignof(struct rbu_area) == RBU_AREA_ALIGNMENT, "the layout of a record");
+#else
+_Static_assert(sizeof(struct rbu_area) == RBU_AREA_SIZE && _Alignof(struct rbu_area) == RBU_AREA_ALIGNMENT, "the layout of a record");
+#endif
+
+// Loads a file into the record. Returns the number of load's answer: RBU_ANSWER_DONE, or 1 to 10, the rule that the file breaks; where
+// it breaks it goes to *place. A refused file leaves the blank record, on which every call answers RBU_ANSWER_UNSOUND. What the record
+// held before plays no part: any bytes will do.
+uint8_t rbu_start(struct rbu_area *area, const uint8_t *file, size_t file_length, uint16_t *place);
+
+// The six calls. Each returns the number of its answer; a refused one leaves the record as it was. Arguments are tested whole: train
+// 257 is refused. `wishes` has an entry for each of the 24 trains, those of trains off are ignored.
+uint8_t rbu_enter(struct rbu_area *area, uint16_t train, uint16_t route, uint16_t speed);
+uint8_t rbu_leave(struct rbu_area *area, uint16_t train);
+uint8_t rbu_speed(struct rbu_area *area, const uint16_t *wishes, size_t count);
+uint8_t rbu_request(struct rbu_area *area);
+uint8_t rbu_grant(struct rbu_area *area);
+uint8_t rbu_position(struct rbu_area *area);
+
+// The report. Returns the number of its answer, RBU_ANSWER_DONE or RBU_ANSWER_UNSOUND. How many segments are allocated goes to
+// *allocated, the least free one (0 if none) to *free_segment; both are 0 where the record is unsound.
+uint8_t rbu_report(const struct rbu_area *area, uint8_t *allocated, uint8_t *free_segment);
+
+// The record is sound.
+bool rbu_is_sound(const struct rbu_area *area);
+
+// ---- the stack
+
+// The stack that a call of each function takes, in bytes. No theorem bounds it: it is measured, on a painted stack, with lists of
+// thousands of calls and every answer among them. The figures have a quarter to spare; the tests measure it again and hold them to it
+// (.ci/stack.c). RBU_STACK_CALL is for each function of a running unit but rbu_start.
+#define RBU_STACK_START 13312
+#define RBU_STACK_CALL 20480
 #define RBU_STACK_LOAD 11264
 #define RBU_STACK_VIEW 11264
 #define RBU_STACK_RUN_FILE 29696
-#define RBU_STACK_REPORT_FILE 32768
-#define RBU_STACK_RUN_RECORD 22528
+#define RBU_STACK_RUN_RECORD 24576
 #define RBU_STACK_SOUND 10752
 #define RBU_STACK_REPORT_RECORD 13312
 #define RBU_STACK_BRAKING_DISTANCE 1024
@@ -56,18 +176,9 @@ size_t rbu_run_file(
     uint8_t *number,
     uint16_t *place);
 
-// The report after a script from a file. Returns the number of its answer. How many segments are allocated goes to *allocated,
-// the least free one (0 if none) to *free_segment. Where load refuses the file, the answer is 11 and both are 0. `answers` is
-// written as by rbu_run_file.
-uint8_t rbu_report_file(
-    const uint8_t *file, size_t file_length,
-    const uint16_t *script, size_t script_length,
-    uint8_t *answers, size_t answers_length,
-    uint8_t *allocated,
-    uint8_t *free_segment);
-
-// ---- any record at all: the tables that a file's bytes spell, with no rule tested (blank ones unless it has 2,560 bytes), and
-// the state that `state` spells; bytes past its end read as 0
+// ---- for the comparison: any record at all, as bytes. The tables are those that a file's bytes spell, with no rule tested (blank ones
+// unless it has 2,560 bytes), the rest is what `state` spells; bytes past its end read as 0. A state of RBU_STATE_SIZE bytes that was
+// written after a run, handed in again with the same file, continues that run.
 
 // Runs a script from such a record. Returns how many calls were run; `answers` is written as by rbu_run_file. The state before
 // is read from `state`, and the one after the calls written there, as far as it has room.
@@ -80,7 +191,7 @@ size_t rbu_run_record(
 // The record is sound.
 bool rbu_sound(const uint8_t *file, size_t file_length, const uint8_t *state, size_t state_length);
 
-// The report of such a record. Returns the number of its answer, 11 for an unsound record; the rest as by rbu_report_file.
+// The report of such a record, as by rbu_report.
 uint8_t rbu_report_record(
     const uint8_t *file, size_t file_length,
     const uint8_t *state, size_t state_length,

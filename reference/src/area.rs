@@ -108,7 +108,7 @@ impl Area {
             raw.is_on().then(|| {
                 let passed = &tables.route(raw.route).listed()[..usize::from(raw.place) - 1];
                 let start: u64 = passed.iter().map(|&segment| u64::from(tables.segment(segment).length)).sum();
-                Train { route: raw.route, way: start + u64::from(raw.position), speed: raw.speed, asks: raw.asks }
+                Train { route: raw.route, way: start + u64::from(raw.position), speed: raw.speed, asks: raw.asks == 1 }
             })
         });
         Some(Area { tables, allocations: record.allocations, trains, due: record.due })
@@ -121,7 +121,7 @@ impl Area {
             Some(train) => {
                 // A way beyond the route's end would show as place 0, which is unsound.
                 let (place, position) = whereabouts(&self.tables, &train).map_or((0, 0), |at| (at.place, at.position));
-                RawTrain { route: train.route, place, position, speed: train.speed, asks: train.asks }
+                RawTrain { route: train.route, place, position, speed: train.speed, asks: u8::from(train.asks) }
             }
         });
         Record { tables: self.tables, allocations: self.allocations, trains, due: self.due }
@@ -292,9 +292,15 @@ impl Area {
         if !self.is_sound() {
             return (11, 0, 0);
         }
+        let (count, least_free) = self.counts();
+        (0, count, least_free)
+    }
+
+    /// The two numbers of a report that is not refused.
+    pub fn counts(&self) -> (u32, u32) {
         let count = (1..=self.tables.n).filter(|&segment| self.allocated(segment) != 0).count();
         let least_free = (1..=self.tables.n).find(|&segment| self.allocated(segment) == 0).unwrap_or(0);
-        (0, count as u32, least_free.into())
+        (count as u32, least_free.into())
     }
 
     /// 11 "the area record breaks a condition": tested on the whole record, at each call.

@@ -99,7 +99,7 @@ fn go_to(record: &mut Record, number: u8, speed: u16, position: u64) -> bool {
     let could_ask = next(record, number).is_some() && held_next(record, number).is_none();
     let asks = record.due == GRANT && near && could_ask;
     let train = train(record, number);
-    (train.speed, train.position, train.asks) = (speed, position as u32, asks);
+    (train.speed, train.position, train.asks) = (speed, position as u32, asks.into());
     true
 }
 
@@ -220,8 +220,8 @@ fn at_limit(random: &mut Random, record: &mut Record, number: u8, above: u16) ->
     at_speed(random, record, number, speed)
 }
 
-/// Grant due and next another's or free: at position length - d - below, its asking as it has to be or turned round.
-fn nearing(random: &mut Random, record: &mut Record, number: u8, below: u32, turned: bool) -> bool {
+/// Grant due and next another's or free: at position length - d - below, with this for its asking.
+fn nearing(random: &mut Random, record: &mut Record, number: u8, below: u32, asks: u8) -> bool {
     if next(record, number).is_none() {
         return false;
     }
@@ -233,8 +233,16 @@ fn nearing(random: &mut Random, record: &mut Record, number: u8, below: u32, tur
         return false;
     }
     go_to(record, number, speed, position.into());
-    train(record, number).asks ^= turned;
+    train(record, number).asks = asks;
     true
+}
+
+/// A train that does not ask, as it has to be, with this for its asking.
+fn not_asking(record: &mut Record, number: u8, asks: u8) -> bool {
+    let train = train(record, number);
+    let does_not = train.asks == 0;
+    train.asks = asks;
+    does_not
 }
 
 /// Standing, next not allocated to it: position = length + beyond.
@@ -323,7 +331,9 @@ pub const EDGES: &[Edge] = &[
     Edge { name: "a train off with a place", due: ANY, sound: false, change: |r, x, _| off(r, x, |train| train.place = 1) },
     Edge { name: "a train off with a position", due: ANY, sound: false, change: |r, x, _| off(r, x, |train| train.position = 1) },
     Edge { name: "a train off with a speed", due: ANY, sound: false, change: |r, x, _| off(r, x, |train| train.speed = 1) },
-    Edge { name: "a train off that asks", due: ANY, sound: false, change: |r, x, _| off(r, x, |train| train.asks = true) },
+    Edge { name: "a train off that asks", due: ANY, sound: false, change: |r, x, _| off(r, x, |train| train.asks = 1) },
+    Edge { name: "a train off with asks 2", due: ANY, sound: false, change: |r, x, _| off(r, x, |train| train.asks = 2) },
+    Edge { name: "a train off with asks 255", due: ANY, sound: false, change: |r, x, _| off(r, x, |train| train.asks = 255) },
     // "Every allocation is 0 or the number of a train on; above N it is 0."
     Edge { name: "a segment allocated to a train off", due: ANY, sound: false, change: one_more_to_one_off },
     Edge { name: "a segment allocated to train 25", due: ANY, sound: false, change: |r, x, t| one_more(r, x, t, TRAINS + 1) },
@@ -374,9 +384,15 @@ pub const EDGES: &[Edge] = &[
     Edge { name: "within both limits, position + speed = length", due: ANOTHER, sound: true, change: |r, x, t| about_to_move_on(r, x, t, 0) },
     Edge { name: "within both limits, position + speed = length + 1", due: ANOTHER, sound: true, change: |r, x, t| about_to_move_on(r, x, t, 1) },
     // "It asks exactly when grant is due, it is near and next exists and isn't its own."
-    Edge { name: "its asking turned round", due: ANY, sound: false, change: |_, x, t| with(x, t, |train| train.asks = !train.asks) },
-    Edge { name: "position = length - d, asking", due: &[GRANT], sound: true, change: |r, x, t| nearing(r, x, t, 0, false) },
-    Edge { name: "position = length - d, not asking", due: &[GRANT], sound: false, change: |r, x, t| nearing(r, x, t, 0, true) },
-    Edge { name: "position = length - d - 1, not asking", due: &[GRANT], sound: true, change: |r, x, t| nearing(r, x, t, 1, false) },
-    Edge { name: "position = length - d - 1, asking", due: &[GRANT], sound: false, change: |r, x, t| nearing(r, x, t, 1, true) },
+    Edge { name: "its asking turned round", due: ANY, sound: false, change: |_, x, t| with(x, t, |train| train.asks ^= 1) },
+    Edge { name: "position = length - d, asking", due: &[GRANT], sound: true, change: |r, x, t| nearing(r, x, t, 0, 1) },
+    Edge { name: "position = length - d, not asking", due: &[GRANT], sound: false, change: |r, x, t| nearing(r, x, t, 0, 0) },
+    Edge { name: "position = length - d, asks 2", due: &[GRANT], sound: false, change: |r, x, t| nearing(r, x, t, 0, 2) },
+    Edge { name: "position = length - d, asks 255", due: &[GRANT], sound: false, change: |r, x, t| nearing(r, x, t, 0, 255) },
+    Edge { name: "position = length - d - 1, not asking", due: &[GRANT], sound: true, change: |r, x, t| nearing(r, x, t, 1, 0) },
+    Edge { name: "position = length - d - 1, asking", due: &[GRANT], sound: false, change: |r, x, t| nearing(r, x, t, 1, 1) },
+    Edge { name: "position = length - d - 1, asks 2", due: &[GRANT], sound: false, change: |r, x, t| nearing(r, x, t, 1, 2) },
+    Edge { name: "position = length - d - 1, asks 255", due: &[GRANT], sound: false, change: |r, x, t| nearing(r, x, t, 1, 255) },
+    Edge { name: "asks 2 where it is not to ask", due: ANY, sound: false, change: |_, x, t| not_asking(x, t, 2) },
+    Edge { name: "asks 255 where it is not to ask", due: ANY, sound: false, change: |_, x, t| not_asking(x, t, 255) },
 ];

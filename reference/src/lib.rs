@@ -33,13 +33,14 @@ pub mod demand3;
 // a writer of files for tests, and Area A
 pub mod write;
 
-// the binary script, random areas, lists and records, and the core linked in: not of the paper
+// the binary script and the state as bytes, random areas, lists and records, and the core's record: not of the paper
 pub mod breaks;
 pub mod edges;
+#[cfg(feature = "rbu")]
+pub mod kept;
 pub mod random;
 pub mod script;
-#[cfg(feature = "unit")]
-pub mod unit;
+pub mod state;
 
 pub use area::{answer_of, call_on, cycle, load, report_on, Area, Call};
 pub use braking::{b_rest, s};
@@ -47,6 +48,7 @@ pub use demand3::Demand3;
 pub use file::{check, decode_tables, read, Refusal};
 pub use numbers::*;
 pub use record::{sound, RawTrain, Record, GRANT, POSITION, REQUEST, SPEED};
+pub use state::{record_of, state_of};
 pub use tables::{Route, Segment, Tables, ENTRY, EXIT};
 pub use view::{route_view, route_view_start};
 pub use write::{area_a, full_area, put_checks, Description, AREA_A_CYCLE, AREA_A_ENTRIES};

@@ -18,12 +18,13 @@ pub struct RawTrain {
     pub place: u8,
     pub position: u32,
     pub speed: u16,
-    pub asks: bool,
+    /// 1 where it asks, 0 where not; another number is in no sound record
+    pub asks: u8,
 }
 
 impl RawTrain {
     /// "A train off is all zero."
-    pub const OFF: RawTrain = RawTrain { route: 0, place: 0, position: 0, speed: 0, asks: false };
+    pub const OFF: RawTrain = RawTrain { route: 0, place: 0, position: 0, speed: 0, asks: 0 };
 
     pub fn is_on(&self) -> bool {
         self.route != 0
@@ -144,5 +145,6 @@ fn sound_train_on(record: &Record, number: u8) -> bool {
     // reading: near, "position ≥ length − `d`", is tested as position + d ≥ length, which is
     // the same since rule 6 keeps lengths above d.
     let near = position + u64::from(tables.d) >= length;
-    train.asks == (record.due == GRANT && near && next.is_some() && !next_is_its_own)
+    // reading: asking is kept as a number, 1 for asks and 0 for not; another says neither.
+    train.asks == u8::from(record.due == GRANT && near && next.is_some() && !next_is_its_own)
 }

@@ -18,7 +18,7 @@ fn longer() -> Description {
 }
 
 fn train(route: u8, place: u8, position: u32, speed: u16) -> RawTrain {
-    RawTrain { route, place, position, speed, asks: false }
+    RawTrain { route, place, position, speed, asks: 0 }
 }
 
 fn raw(description: &Description, due: u8, trains: &[(usize, RawTrain)], allocations: &[u8]) -> Record {
@@ -170,7 +170,7 @@ fn request_and_grant_step() {
     let record = raw(&area_a(), REQUEST, &trains, &[7, 2, 0]);
     let (number, asked) = call_on(&record, &Call::Request);
     assert_eq!((number, asked.due), (0, GRANT));
-    assert!(asked.trains[6].asks && asked.trains[1].asks);
+    assert_eq!((asked.trains[6].asks, asked.trains[1].asks), (1, 1));
     let (number, granted) = call_on(&asked, &Call::Grant);
     assert_eq!(number, 0);
     assert_eq!(granted, raw(&area_a(), POSITION, &trains, &[7, 2, 2]));
@@ -184,7 +184,7 @@ fn request_and_grant_step() {
     // next taken by another train: it asks, and goes without
     let taken = raw(&area_a(), REQUEST, &[(7, train(1, 1, 1350, 290)), (2, train(2, 2, 0, 0))], &[7, 0, 2]);
     let (_, asked) = call_on(&taken, &Call::Request);
-    assert!(asked.trains[6].asks);
+    assert_eq!(asked.trains[6].asks, 1);
     assert_eq!(call_on(&asked, &Call::Grant), (0, Record { due: POSITION, ..taken }));
     // a train that leaves while others ask, and enters beside them
     let mut area = Area::from_record(&asked).unwrap();
@@ -237,7 +237,9 @@ fn sound_record() {
     broken(&|r| r.trains[23].place = 1);
     broken(&|r| r.trains[23].position = 1);
     broken(&|r| r.trains[23].speed = 1);
-    broken(&|r| r.trains[23].asks = true);
+    for asks in [1, 2, 255] {
+        broken(&|r| r.trains[23].asks = asks);
+    }
     // allocations
     broken(&|r| r.allocations[3] = 3);
     broken(&|r| r.allocations[3] = TRAINS + 1);
@@ -260,7 +262,9 @@ fn sound_record() {
     broken(&|r| r.allocations[3] = 1);
     broken(&|r| r.allocations[3] = 2);
     // asks
-    broken(&|r| r.trains[0].asks = true);
+    for asks in [1, 2, 255] {
+        broken(&|r| r.trains[0].asks = asks);
+    }
 
     // B with speed due, S with another step due; next not allocated, or none
     for (route, place, allocations, length) in [(1, 1, [4, 0, 0], 6000), (1, 2, [0, 0, 4], 8000)] {
@@ -282,11 +286,13 @@ fn sound_record() {
         let train = RawTrain { asks, ..train(1, 1, position, 0) };
         sound(&raw(&area_a(), due, &[(4, train)], &[4, 0, next]))
     };
-    assert!(asking(GRANT, 1350, true, 0) && !asking(GRANT, 1350, false, 0));
-    assert!(asking(GRANT, 1349, false, 0) && !asking(GRANT, 1349, true, 0));
-    assert!(asking(GRANT, 1350, false, 4) && !asking(GRANT, 1350, true, 4));
-    for due in [SPEED, REQUEST, POSITION] {
-        assert!(asking(due, 1350, false, 0) && !asking(due, 1350, true, 0));
+    for asks in 0..=255 {
+        assert_eq!(asking(GRANT, 1350, asks, 0), asks == 1);
+        assert_eq!(asking(GRANT, 1349, asks, 0), asks == 0);
+        assert_eq!(asking(GRANT, 1350, asks, 4), asks == 0);
+        for due in [SPEED, REQUEST, POSITION] {
+            assert_eq!(asking(due, 1350, asks, 0), asks == 0);
+        }
     }
 }
 
@@ -298,7 +304,7 @@ fn sound_of_wild_records() {
         let mut tables = decode_tables(&[byte; FILE_SIZE]);
         let mut record = Record { tables, ..Record::BLANK };
         record.allocations = [byte; SEGMENTS as usize];
-        record.trains = [RawTrain { route: byte, place: byte, position: wide, speed: wide as u16, asks: true }; TRAINS as usize];
+        record.trains = [RawTrain { route: byte, place: byte, position: wide, speed: wide as u16, asks: byte.max(1) }; TRAINS as usize];
         record.due = byte;
         assert!(!sound(&record));
         tables = decode_tables(&longer().file());

@@ -69,7 +69,7 @@ fn says(verdict: Result<(), String>, words: &str) {
 }
 
 const fn standing(route: u8) -> RawTrain {
-    RawTrain { route, place: 1, position: 0, speed: 0, asks: false }
+    RawTrain { route, place: 1, position: 0, speed: 0, asks: 0 }
 }
 
 // ---- Whole runs

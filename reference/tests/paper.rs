@@ -122,12 +122,12 @@ fn edges_of_the_file() {
 #[test]
 fn edge_of_the_position_step() {
     let mut record = Record::loaded(decode_tables(&area_a().file()));
-    record.trains[0] = RawTrain { route: 1, place: 1, position: 5710, speed: 290, asks: false };
+    record.trains[0] = RawTrain { route: 1, place: 1, position: 5710, speed: 290, asks: 0 };
     record.allocations[..3].copy_from_slice(&[1, 0, 1]);
     record.due = POSITION;
     let (number, back) = call_on(&record, &Call::Position);
     assert_eq!(number, 0);
-    assert_eq!(back.trains[0], RawTrain { route: 1, place: 2, position: 0, speed: 290, asks: false });
+    assert_eq!(back.trains[0], RawTrain { route: 1, place: 2, position: 0, speed: 290, asks: 0 });
     assert_eq!(back.allocations[..3], [0, 0, 1]);
     assert_eq!(back.due, SPEED);
     // one less stays

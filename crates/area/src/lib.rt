@@ -11,6 +11,7 @@ use trains::Train;
 
 // Allocations: a slot for each segment, 0 or the number of the train that it is allocated to. Trains: a slot for each number.
 // The step due: 0 speed, 1 request, 2 grant, 3 position.
+#[repr(C)]
 pub struct Area {
     pub tables: Tables,
     pub allocations: [u8; 62],

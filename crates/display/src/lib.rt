@@ -7,13 +7,12 @@ fn say_train(trains: [Train; 24], t: u8) {
     if x.route == 0 {
         return;
     }
-    let asks = if x.asks { 1 } else { 0 };
     console::say_number(b"train ", t as u64);
     console::say_number(b" route ", x.route as u64);
     console::say_number(b" place ", x.place as u64);
     console::say_number(b" position ", x.position as u64);
     console::say_number(b" speed ", x.speed as u64);
-    console::say_number(b" asks ", asks);
+    console::say_number(b" asks ", x.asks as u64);
     io::write_all(STDOUT_FILENO, b"\n");
 }
 

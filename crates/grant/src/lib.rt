@@ -10,9 +10,9 @@ use trains::Train;
 
 // The segment that a train asks for; 0 where it asks for none.
 fn asked_by(routebytes: &[u8; 960], x: Train) -> u8
-    ensures { λ r. ⌜ r ≡ (if x .asks then wantedIn (now (routebytes .entry)) x else 0) ⌝ }
+    ensures { λ r. ⌜ r ≡ (if eqb (x .asks) 1 then wantedIn (now (routebytes .entry)) x else 0) ⌝ }
 {
-    if x.asks {
+    if x.asks == 1 {
         return standing::wanted_of(routebytes, x);
     }
     0

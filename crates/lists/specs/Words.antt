@@ -10,12 +10,6 @@ abbrev pub if_then_else_ : {A : Type 0} → Bool → A → A → A
 if true then a else b = a
 if false then a else b = b
 
--- both hold or neither does
-infix 20 _⇔_
-abbrev pub _⇔_ : Bool → Bool → Bool
-true ⇔ b = b
-false ⇔ b = not b
-
 module _ {A : Type 0} (none : A) where
   -- entry n of a list; `none` where the list has no entry n
   unfoldable pub nth : List A → ℕ → A

@@ -1,6 +1,5 @@
 -- Area A of document 01: its file, block by block, and a record of it. Bytes and numbers are in decimal.
 use Prim.Native.Nat.{ℕ}
-use mathlib.Core.Bool.{false}
 use mathlib.Core.List.{List, [], _∷_, _++_}
 use lib.ListN.{replicate}
 use Rattle.file.specs.Layout.{blockBytes, headerBytes, segmentBytes, routeBytes}
@@ -49,6 +48,6 @@ moving =
     record {
       tables = decoded (file headerA segmentsA);
       allocations = 1 ∷ 0 ∷ 1 ∷ replicate 59 0;
-      trains = record { route = 1; place = 1; position = 5710; speed = 290; asks = false } ∷ replicate 23 off;
+      trains = record { route = 1; place = 1; position = 5710; speed = 290; asks = 0 } ∷ replicate 23 off;
       due = positionDue;
     }

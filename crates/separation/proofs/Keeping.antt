@@ -123,7 +123,7 @@ module _ (T : Tables) (K : Consistent T) (A : List ℕ) (X : List Train) (h : Hi
     asks-on : (t s : ℕ) → AsksFor T X t s → h .on t ≡ true
     asks-on t s a =
         by-test (h .on t) (λ o. o)
-        (λ o. not-both (trainAt X t .asks) (a .asks) (ap (λ (x : Train). x .asks) (k .offs t o)))
+        (λ o. absurd (omega (arith, a .asks, ap (λ (x : Train). x .asks) (k .offs t o))))
 
     noted-grant : (t s : ℕ) → (at A s ≡ t → ⊥) → at A′ s ≡ t → granted′ t s ≡ true
     noted-grant t s n e =

@@ -5,3 +5,4 @@ pub mod Places
 pub mod Fields
 pub mod Demand3
 pub mod Ways
+pub mod Tables

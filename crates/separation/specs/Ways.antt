@@ -1,7 +1,6 @@
 -- The same list worked through with trains that have only a way: place and position are not kept but worked out of it wherever the
 -- record is looked at (document 01, "Whole runs").
 use Prim.Native.Nat.{ℕ, _+_, _-_}
-use mathlib.Core.Bool.{Bool, false}
 use mathlib.Core.List.{List, [], _∷_, _++_}
 use lib.Dec.{ltb, eqb}
 use Rattle.lists.specs.Words.{if_then_else_, nth, each, tabulate, least}
@@ -22,10 +21,10 @@ pub record WayTrain : Type 0 where
   pub route : ℕ
   pub way : ℕ
   pub speed : ℕ
-  pub asks : Bool
+  pub asks : ℕ
 
 abbrev pub offWay : WayTrain
-offWay = record { route = 0; way = 0; speed = 0; asks = false }
+offWay = record { route = 0; way = 0; speed = 0; asks = 0 }
 
 pub record WayWorld : Type 0 where
   pub tables : Tables

@@ -16,7 +16,7 @@ use trains::Train;
 fn off_sound(x: Train) -> bool
     ensures { λ r. ⌜ r ≡ offSound x ⌝ }
 {
-    (x.place == 0) & (x.position == 0) & (x.speed == 0) & !x.asks
+    (x.place == 0) & (x.position == 0) & (x.speed == 0) & (x.asks == 0)
 }
 
 fn place_sound(routes: u8, spot: Spot, x: Train) -> bool
@@ -62,10 +62,7 @@ fn asking_sound(due: u8, spot: Spot, x: Train) -> bool
     ensures { λ r. ⌜ r ≡ askingSound due spot x ⌝ }
 {
     let wants = (due == 2) & standing::wants_next(spot);
-    if x.asks {
-        return wants;
-    }
-    !wants
+    x.asks == standing::asking(wants)
 }
 
 // Of a train whose place is sound, S(limit) ≤ `d`.

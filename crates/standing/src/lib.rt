@@ -3,7 +3,7 @@ ghost use mathlib.Core.Path.{_≡_};
 ghost use Prim.Native.Nat.{_-_};
 ghost use lib.Dec.{leb, eqb};
 ghost use Rattle.lists.specs.Words.{at, each};
-ghost use Rattle.trains.specs.Train.{off, entered, withSpeed, withAsking, movedTo, trainAt, ownIn, nextIn, occupiedIn, aheadIn, wantedIn};
+ghost use Rattle.trains.specs.Train.{off, entered, withSpeed, asking, withAsking, movedTo, trainAt, ownIn, nextIn, occupiedIn, aheadIn, wantedIn};
 ghost use Rattle.trains.specs.Spot.{spotIn};
 ghost use Rattle.trains.specs.Cycle.{wants};
 ghost use Rattle.standing.specs.Spots.{noSpot, standsIn};
@@ -22,7 +22,7 @@ pub fn train_off() -> Train
         place: 0,
         position: 0,
         speed: 0,
-        asks: false,
+        asks: 0,
     }
 }
 
@@ -34,7 +34,7 @@ pub fn entered_train(route: u8, speed: u16) -> Train
         place: 1,
         position: 0,
         speed,
-        asks: false,
+        asks: 0,
     }
 }
 
@@ -50,6 +50,13 @@ pub fn with_speed(x: Train, speed: u16) -> Train
     }
 }
 
+// Asking as a number.
+pub fn asking(asks: bool) -> u8
+    ensures { λ r. ⌜ r ≡ asking asks ⌝ }
+{
+    if asks { 1 } else { 0 }
+}
+
 pub fn with_asking(x: Train, asks: bool) -> Train
     ensures { λ r. ⌜ r ≡ withAsking x asks ⌝ }
 {
@@ -58,7 +65,7 @@ pub fn with_asking(x: Train, asks: bool) -> Train
         place: x.place,
         position: x.position,
         speed: x.speed,
-        asks,
+        asks: asking(asks),
     }
 }
 

@@ -1,10 +1,8 @@
 -- The rows of bytes of the state and of the trains, put one after the other, and the records that bytes spell.
-use Prim.Native.Nat.{ℕ, _+_, _*_, _≤_, _<_}
+use Prim.Native.Nat.{ℕ, _+_, _-_, _*_, _≤_, _<_}
 use mathlib.Core.Path.{_≡_, refl, sym, _∙_}
-use mathlib.Core.Bool.{Bool, true, false}
-use mathlib.Core.List.{List, [], _∷_}
+use mathlib.Core.List.{List, [], _∷_, append-nil}
 use native.Mathlib.Omega.{arith}
-use mir.Val.{boolByte}
 use lib.ListN.{length, getD, drop, replicate, length-append, drop-of-length-le}
 use lib.Seq.{drop-cons, take-all}
 use native.Mathlib.Numerals.{add-one}
@@ -16,30 +14,32 @@ use Rattle.file.proofs.Rows.{put-nothing, put-next}
 use Rattle.tables.specs.Tables.{blankTables}
 use Rattle.decoding.specs.Decoding.{decoded}
 use Rattle.trains.specs.declared.Train.{Train}
-use Rattle.trains.specs.Train.{off}
+use Rattle.trains.specs.Train.{mostTrains, off}
 use Rattle.area.specs.declared.Area.{Area}
-use Rattle.state.specs.State.{trainBytes, trainRows, headSize, headBytes, stateBytes, stateInto, tablesOf}
-
--- a truth value as a byte
-bool-byte : (b : Bool) → boolByte b ≡ (if b then 1 else 0)
-bool-byte true = refl
-bool-byte false = refl
+use Rattle.state.specs.State.{trainBytes, trainRows, headSize, headBytes, stateBytes, stateSize, tablesOf}
 
 -- the ten bytes of a train that hold something, put into zeros; p and v are the bytes of its position and of its speed
 pub train-put :
     (x : Train) {p v : List ℕ} → p ≡ four (x .position) → v ≡ two (x .speed)
     → putAt 0
-    (x .route ∷ x .place ∷ boolByte (x .asks) ∷ 0 ∷ getD p 0 0 ∷ getD p 1 0 ∷ getD p 2 0 ∷ getD p 3 0 ∷ getD v 0 0 ∷ getD v 1 0 ∷ [])
+    (x .route ∷ x .place ∷ x .asks ∷ 0 ∷ getD p 0 0 ∷ getD p 1 0 ∷ getD p 2 0 ∷ getD p 3 0 ∷ getD v 0 0 ∷ getD v 1 0 ∷ [])
     (replicate 32 0)
     ≡ trainBytes x
 unfolding putAt
-train-put x e f = rw (e, f, bool-byte (x .asks))
+train-put x e f = rw (e, f)
 
 -- 64 bytes of zeros into which the step due and the allocations are put
 pub head-put :
     (due : ℕ) (allocations : List ℕ) → length allocations ≡ 62 → putAt 1 allocations (due ∷ replicate 63 0) ≡ headBytes due allocations
 unfolding putAt
 head-put due allocations long = rw (long, take-all 63 allocations (omega arith))
+
+-- a row put over one of the same length
+put-over : (row old : List ℕ) → length row ≡ length old → putAt 0 row old ≡ row
+unfolding putAt
+put-over row old same =
+    let past : length old ≤ 0 + length row = omega arith in
+    rw (take-all (length old - 0) row (omega arith), drop-of-length-le old past) (append-nil row)
 
 -- the rows of the trains from index i on are left to put
 pub record Left (trains : List Train) (old : List ℕ) (i : ℕ) (new : List ℕ) : Type 0 where
@@ -69,12 +69,23 @@ module _ {trains : List Train} {old : List ℕ} where
     pub left-none : length trains ≤ i → new ≡ putAt headSize (trainRows trains) old
     left-none h = sym (put-nothing (headSize + 32 * i) new) ∙ rw (drop-of-length-le trains h) at (left .rest)
 
--- the 64 bytes before the trains, and the trains
-pub state-put : (a : Area) (old : List ℕ) → length (a .allocations) ≡ 62 → putAt headSize (trainRows (a .trains)) (putAt 0 (headBytes (a .due) (a .allocations)) old) ≡ stateInto a old
-unfolding stateInto stateBytes
-state-put a old long =
-    let e : 0 + length (headBytes (a .due) (a .allocations)) ≡ headSize = simp (length-append, long) in
-    rw e at (put-next 0 (headBytes (a .due) (a .allocations)) (trainRows (a .trains)) old)
+rows-long : (trains : List Train) → length (trainRows trains) ≡ 32 * length trains
+rows-long [] = refl
+rows-long (x ∷ trains) = let e = rows-long trains in omega arith
+
+-- a state: the 64 bytes before the trains, and the trains' rows, put into as many zeros
+module _ (a : Area) (segments : length (a .allocations) ≡ 62) (numbers : length (a .trains) ≡ mostTrains) where
+  pub state-long : length (stateBytes a) ≡ stateSize
+  unfolding stateBytes
+  state-long = simp (length-append, segments, rows-long, numbers)
+
+  pub state-put : putAt headSize (trainRows (a .trains)) (putAt 0 (headBytes (a .due) (a .allocations)) (replicate stateSize 0)) ≡ stateBytes a
+  unfolding stateBytes
+  state-put =
+      let head = headBytes (a .due) (a .allocations) in
+      let e : 0 + length head ≡ headSize = simp (length-append, segments) in
+      let zeros : List ℕ = replicate stateSize 0 in
+      rw e at (put-next 0 head (trainRows (a .trains)) zeros) ∙ put-over (stateBytes a) zeros state-long
 
 -- the tables that a file's bytes spell
 module _ (file : List ℕ) where

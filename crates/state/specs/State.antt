@@ -1,6 +1,6 @@
 -- The running state of an area as bytes (docs/FORMATS.md): step due, allocations, trains. Bytes are counted from 0.
-use Prim.Native.Nat.{ℕ, _+_, _-_, _*_}
-use mathlib.Core.Bool.{not}
+use Prim.Native.Nat.{ℕ, _+_, _-_, _*_, _≤_}
+use mathlib.Core.Path.{_≡_}
 use mathlib.Core.List.{List, [], _∷_, _++_}
 use lib.Dec.{eqb}
 use lib.ListN.{length, replicate}
@@ -14,7 +14,7 @@ use Rattle.trains.specs.declared.Train.{Train}
 use Rattle.trains.specs.Train.{mostTrains}
 use Rattle.area.specs.declared.Area.{Area}
 
--- a train's 32 bytes: route, place, asks (0 or 1), a zero, position, speed, zeros. Where each stands, and all of them as a row
+-- a train's 32 bytes: route, place, asks (0 or 1 in a sound record), a zero, position, speed, zeros. Where each stands, and all of them as a row
 pub record TrainPlaces : Type 0 where
   pub route : ℕ
   pub place : ℕ
@@ -26,7 +26,7 @@ abbrev pub inTrain : TrainPlaces
 inTrain = record { route = 0; place = 1; asks = 2; position = 4; speed = 8 }
 
 abbrev pub trainBytes : Train → List ℕ
-trainBytes x = x .route ∷ x .place ∷ (if x .asks then 1 else 0) ∷ 0 ∷ four (x .position) ++ two (x .speed) ++ replicate 22 0
+trainBytes x = x .route ∷ x .place ∷ x .asks ∷ 0 ∷ four (x .position) ++ two (x .speed) ++ replicate 22 0
 
 -- the trains' rows one after the other
 abbrev pub trainRows : List Train → List ℕ
@@ -62,7 +62,7 @@ trainOf state t =
       place = byteAt state (trainStart t + inTrain .place);
       position = fourAt state (trainStart t + inTrain .position);
       speed = twoAt state (trainStart t + inTrain .speed);
-      asks = not (eqb (byteAt state (trainStart t + inTrain .asks)) 0);
+      asks = byteAt state (trainStart t + inTrain .asks);
     }
 
 unfoldable pub recordOf : (file state : List ℕ) → Area
@@ -73,3 +73,13 @@ recordOf file state =
       trains = tabulate mostTrains (trainOf state);
       due = byteAt state 0;
     }
+
+-- how many bytes a state has
+abbrev pub stateSize : ℕ
+stateSize = headSize + 32 * mostTrains
+
+-- new bytes, which were written over old ones that have room for a state, read as the record beside every file that has its tables:
+-- a run goes on from there
+abbrev pub ReadsBack : (a : Area) (old new : List ℕ) → Type 0
+ReadsBack a old new =
+    (file : List ℕ) → length file ≡ fileSize → a .tables ≡ decoded file → stateSize ≤ length old → recordOf file new ≡ a

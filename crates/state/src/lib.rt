@@ -4,7 +4,7 @@ ghost use Prim.Native.Nat.{_+_};
 ghost use Rattle.lists.specs.Words.{tabulate};
 ghost use Rattle.file.specs.Bytes.{byteAt, putAt};
 ghost use Rattle.trains.specs.Train.{mostTrains};
-ghost use Rattle.state.specs.State.{trainBytes, trainRows, headSize, headBytes, stateInto, tablesOf, trainOf, recordOf};
+ghost use Rattle.state.specs.State.{trainBytes, trainRows, headSize, headBytes, stateBytes, stateInto, tablesOf, trainOf, recordOf, ReadsBack};
 use area::Area;
 use tables::Tables;
 use trains::Train;
@@ -17,7 +17,7 @@ fn train_bytes(x: Train) -> [u8; 32]
     let held = [
         x.route,
         x.place,
-        x.asks as u8,
+        x.asks,
         0,
         p[0],
         p[1],
@@ -49,15 +49,26 @@ fn write_trains(trains: [Train; 24], buffer: &mut [u8])
     }
 }
 
-// Writes the state into a buffer, as far as that has room.
-pub fn write_state(area: Area, buffer: &mut [u8])
-    ensures { λ _. ⌜ now (buffer .exit) ≡ stateInto area (now (buffer .entry)) ⌝ }
+fn state_bytes(area: Area) -> [u8; 832]
+    ensures { λ r. ⌜ r ≡ stateBytes area ⌝ }
 {
     let allocations = area.allocations;
     let trains = area.trains;
     let head = head_bytes(area.due, allocations);
-    octets::put(buffer, 0, &head);
-    write_trains(trains, buffer);
+    let mut bytes = [0u8; 832];
+    octets::put(&mut bytes, 0, &head);
+    write_trains(trains, &mut bytes);
+    bytes
+}
+
+// Writes the state into a buffer, as far as that has room. Its bytes are made apart: in an array of a known size the places of the
+// rows need no test, and the buffer's room is looked at once.
+pub fn write_state(area: Area, buffer: &mut [u8])
+    ensures { λ _. ⌜ now (buffer .exit) ≡ stateInto area (now (buffer .entry)) ⌝ }
+    ensures { λ _. ⌜ ReadsBack area (now (buffer .entry)) (now (buffer .exit)) ⌝ }
+{
+    let bytes = state_bytes(area);
+    octets::put(buffer, 0, &bytes);
 }
 
 // ---- any record at all, from bytes
@@ -91,7 +102,7 @@ fn train_of(state: &[u8], i: u8) -> Train
         place: octets::byte(state, at + 1),
         position: octets::four_at(state, start + 4),
         speed: octets::two_at(state, start as u32 + 8),
-        asks: octets::byte(state, at + 2) != 0,
+        asks: octets::byte(state, at + 2),
     }
 }
 

@@ -13,6 +13,7 @@ pub const LONGEST: u32 = 1000000;
 
 // N, R, `gmax`, `b` and `d` of document 01; then a slot for each segment, two for its next and two for its previous links,
 // and the route records as the file has them, 32 bytes each: the count and then the segment numbers.
+#[repr(C)]
 pub struct Tables {
     pub segments: u8,
     pub routes: u8,

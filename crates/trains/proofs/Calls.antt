@@ -10,7 +10,7 @@ use Rattle.lists.proofs.Cases.{if-case}
 use Rattle.tables.specs.declared.Tables.{Tables}
 use Rattle.trains.specs.declared.Train.{Train}
 use Rattle.trains.specs.declared.Spot.{Spot}
-use Rattle.trains.specs.Train.{withSpeed, withAsking, trainAt, isOn}
+use Rattle.trains.specs.Train.{withSpeed, asking, withAsking, trainAt, isOn}
 use Rattle.trains.specs.Spot.{spotOf}
 use Rattle.trains.specs.Cycle.{low, newSpeed, sped, wants, requested, released, freed}
 use Rattle.trains.specs.EnterLeave.{freedBy, becomes}
@@ -22,7 +22,7 @@ sped-off T A wishes t x off =
     ap (λ (on : Bool). if on then withSpeed x (newSpeed (T .braking) (spotOf T (at A) t x) x (at wishes t)) else x) off
 
 -- THE CLAIM: a train on asks after request exactly when it is near and has a next that isn't allocated to it
-pub asks-when : (T : Tables) (A : List ℕ) (t : ℕ) (x : Train) → isOn x ≡ true → requested T A t x .asks ≡ wants (spotOf T (at A) t x)
+pub asks-when : (T : Tables) (A : List ℕ) (t : ℕ) (x : Train) → isOn x ≡ true → requested T A t x .asks ≡ asking (wants (spotOf T (at A) t x))
 unfolding requested
 asks-when T A t x on = ap (λ (q : Bool). (if q then withAsking x (wants (spotOf T (at A) t x)) else x) .asks) on
 

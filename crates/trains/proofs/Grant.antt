@@ -17,7 +17,7 @@ use Rattle.trains.specs.Grant.{asked, served, granted, calmed}
 -- train t asks for segment s
 pub record AsksFor (T : Tables) (trains : List Train) (t s : ℕ) : Type 0 where
   pub isTrain : (1 ≤ t) × (t ≤ mostTrains)
-  pub asks : trainAt trains t .asks ≡ true
+  pub asks : trainAt trains t .asks ≡ 1
   pub wants : wanted T (trainAt trains t) ≡ s
 
 chosen : (b : Bool) (w s : ℕ) → 1 ≤ s → (if b then w else 0) ≡ s → (b ≡ true) × (w ≡ s)
@@ -28,13 +28,15 @@ choose : (b : Bool) (w s : ℕ) → b ≡ true → w ≡ s → (if b then w else
 choose b w s q e = rw q e
 
 module _ (T : Tables) (trains : List Train) where
-  asks-of : (t s : ℕ) → 1 ≤ s → asked T (trainAt trains t) ≡ s → (trainAt trains t .asks ≡ true) × (wanted T (trainAt trains t) ≡ s)
+  asks-of : (t s : ℕ) → 1 ≤ s → asked T (trainAt trains t) ≡ s → (trainAt trains t .asks ≡ 1) × (wanted T (trainAt trains t) ≡ s)
   unfolding asked
-  asks-of t s some e = chosen (trainAt trains t .asks) (wanted T (trainAt trains t)) s some e
+  asks-of t s some e =
+      let c = chosen (eqb (trainAt trains t .asks) 1) (wanted T (trainAt trains t)) s some e in
+      (eqb-true (trainAt trains t .asks) 1 (c .0), c .1)
 
   of-asks : (t s : ℕ) → AsksFor T trains t s → asked T (trainAt trains t) ≡ s
   unfolding asked
-  of-asks t s a = choose (trainAt trains t .asks) (wanted T (trainAt trains t)) s (a .asks) (a .wants)
+  of-asks t s a = choose (eqb (trainAt trains t .asks) 1) (wanted T (trainAt trains t)) s (eq-eqb (trainAt trains t .asks) 1 (a .asks)) (a .wants)
 
   -- THE CLAIM: a segment that is allocated stays with its train
   pub grant-keeps : (s h : ℕ) → 1 ≤ h → granted T trains s h ≡ h
@@ -66,5 +68,5 @@ module _ (T : Tables) (trains : List Train) where
       (omega arith, omega arith)
 
 -- THE CLAIM: all asking ends
-pub calmed-asks : (x : Train) → calmed x .asks ≡ false
+pub calmed-asks : (x : Train) → calmed x .asks ≡ 0
 calmed-asks x = refl

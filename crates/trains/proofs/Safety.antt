@@ -16,7 +16,7 @@ use Rattle.tables.specs.Tables.{countOf, segmentAt}
 use Rattle.tables.specs.Facts.{IsSegment, Follows, Consistent}
 use Rattle.trains.specs.declared.Train.{Train}
 use Rattle.trains.specs.Due.{speedDue, requestDue, grantDue, positionDue}
-use Rattle.trains.specs.Train.{entered, withSpeed, withAsking, movedTo, ownIn, ownOf, nextIn, nextOf, ownLength, ownLimit, nextLimit, near, holdsNext, occupied, ahead}
+use Rattle.trains.specs.Train.{entered, withSpeed, asking, withAsking, movedTo, ownIn, ownOf, nextIn, nextOf, ownLength, ownLimit, nextLimit, near, holdsNext, occupied, ahead}
 use Rattle.trains.specs.Spot.{spotOf}
 use Rattle.trains.specs.Cycle.{low, upperEnd, newSpeed, wants, movesIn, movesOn, moved, movedIn, released}
 use Rattle.trains.specs.Sound.{toRun}
@@ -40,7 +40,7 @@ pub record TrainOk (T : Tables) (due : ℕ) (held : ℕ → ℕ) (t : ℕ) (x : 
   pub stops : holdsNext T held t x ≡ false → x .position + toRun (T .braking) due (x .speed) < ownLength T x
   pub nextSlow : holdsNext T held t x ≡ true → speedDue < due → ownLength T x ≤ x .position + x .speed → x .speed ≤ nextLimit T x
   pub walked : way ≡ startAfter T (x .route) (x .place - 1) + x .position
-  pub asksWell : x .asks ≡ (eqb due grantDue && wants (spotOf T held t x))
+  pub asksWell : x .asks ≡ asking (eqb due grantDue && wants (spotOf T held t x))
 
 run-now : (b v : ℕ) → toRun b speedDue v ≡ B b v
 unfolding toRun
@@ -219,7 +219,7 @@ module _ (T : Tables) (K : Consistent T) where
         stops = λ o. ok .stops (holds-not held held′ t x to o);
         nextSlow = λ o d h. ok .nextSlow (holds-kept held′ held t x from o) d h;
         walked = ok .walked;
-        asksWell = ok .asksWell ∙ ap (λ (b : Bool). eqb due grantDue && b) (wants-same held held′ t x (holds-same held held′ t x to from));
+        asksWell = ok .asksWell ∙ ap (λ (b : Bool). asking (eqb due grantDue && b)) (wants-same held held′ t x (holds-same held held′ t x to from));
       }
 
   -- ---- request
@@ -372,5 +372,5 @@ module _ (T : Tables) (K : Consistent T) where
             if-case (λ (w : ℕ). 0 + w < ownLength T (entered r v)) (eqb due speedDue) (λ e. omega (arith, S-B (T .braking) (K .rate) v)) (λ e. omega arith);
         nextSlow = λ q d e. absurd (omega (arith, S-above (T .braking) (K .rate) v));
         walked = refl;
-        asksWell = rw (lt-leb (ownLength T (entered r v) - T .margin) 0 (omega arith)) (sym (and-false (eqb due grantDue)));
+        asksWell = rw (lt-leb (ownLength T (entered r v) - T .margin) 0 (omega arith)) (sym (ap asking (and-false (eqb due grantDue))));
       }

@@ -6,29 +6,25 @@ use mathlib.Core.Bool.{Bool, true, false, _&&_, _||_}
 use mathlib.Core.List.{List}
 use native.Mathlib.Omega.{arith}
 use lib.Dec.{leb, ltb, eqb}
-use borrow.Author.Tests.{leb-true, ltb-true, eqb-true, le-leb, lt-ltb, eq-eqb, ne-eqb, not-true}
-use Rattle.lists.specs.Words.{_⇔_, at}
+use borrow.Author.Tests.{leb-true, ltb-true, eqb-true, le-leb, lt-ltb, eq-eqb, ne-eqb}
+use Rattle.lists.specs.Words.{at}
 use Rattle.lists.proofs.Cases.{by-test, cases, lt-or-le, eq-or-ne, not-both, and-iff, facts, either, either-yes}
 use Rattle.tables.specs.declared.Tables.{Tables}
 use Rattle.tables.specs.Tables.{countOf}
 use Rattle.trains.specs.declared.Train.{Train}
 use Rattle.trains.specs.declared.Spot.{Spot}
 use Rattle.trains.specs.Due.{speedDue, grantDue}
-use Rattle.trains.specs.Train.{off, trainAt, isOn, ownOf, ownLength, ownLimit, occupied, ahead}
+use Rattle.trains.specs.Train.{off, asking, trainAt, isOn, ownOf, ownLength, ownLimit, occupied, ahead}
 use Rattle.trains.specs.Spot.{spotOf}
 use Rattle.trains.specs.Cycle.{wants}
 use Rattle.trains.specs.Sound.{offSound, placeSound, toRun, brakingSound, askingSound, standsSound, trainSound, allocationSound}
 use Rattle.trains.specs.SoundFacts.{SoundTrain, SoundAllocation}
 use Rattle.trains.proofs.Segments.{own-occupied, occupied-own}
 
-both-same : (a b : Bool) → ((a ⇔ b) ≡ true) ↔ (a ≡ b)
-both-same true b = (λ e. sym e, λ e. sym e)
-both-same false b = (λ e. sym (not-true b e), λ e. rw (sym e))
-
 module _ (b due : ℕ) (p : Spot) (x : Train) where
-  pub asking-iff : (askingSound due p x ≡ true) ↔ (x .asks ≡ (eqb due grantDue && wants p))
+  pub asking-iff : (askingSound due p x ≡ true) ↔ (x .asks ≡ asking (eqb due grantDue && wants p))
   unfolding askingSound
-  asking-iff = both-same (x .asks) (eqb due grantDue && wants p)
+  asking-iff = (eqb-true (x .asks) _, eq-eqb (x .asks) _)
 
   -- with next allocated to it
   held-iff :
@@ -69,7 +65,7 @@ place-facts R p x e =
     let f = simp facts at e in (f .0 .0 .0 .0 .0, f .0 .0 .0 .0 .1, f .0 .0 .0 .1, f .0 .0 .1, f .0 .1, f .1)
 
 off-by :
-    (r p i v : ℕ) (q : Bool) → r ≡ 0 → p ≡ 0 → i ≡ 0 → v ≡ 0 → q ≡ false
+    (r p i v q : ℕ) → r ≡ 0 → p ≡ 0 → i ≡ 0 → v ≡ 0 → q ≡ 0
     → record { route = r; place = p; position = i; speed = v; asks = q } ≡ off
 off-by r p i v q a b c d e = rw (a, b, c, d, e)
 
@@ -126,7 +122,7 @@ module _ (T : Tables) (A : List ℕ) (due t : ℕ) (x : Train) where
         let h : offSound x ≡ true = rw z at e in
         let f = simp and-iff at h in
         off-by (x .route) (x .place) (x .position) (x .speed) (x .asks) z
-        (eqb-true (x .place) 0 (f .0 .0 .0)) (eqb-true (x .position) 0 (f .0 .0 .1)) (eqb-true (x .speed) 0 (f .0 .1)) (not-true (x .asks) (f .1)),
+        (eqb-true (x .place) 0 (f .0 .0 .0)) (eqb-true (x .position) 0 (f .0 .0 .1)) (eqb-true (x .speed) 0 (f .0 .1)) (eqb-true (x .asks) 0 (f .1)),
     λ e. rw e,
   )
 

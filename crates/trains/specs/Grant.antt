@@ -11,7 +11,7 @@ use Rattle.trains.specs.Train.{mostTrains, withAsking, trainAt, wanted}
 
 -- *Grant*: each unallocated segment goes to the least train number asking for it; all asking ends
 unfoldable pub asked : Tables → Train → ℕ
-asked T x = if x .asks then wanted T x else 0
+asked T x = if eqb (x .asks) 1 then wanted T x else 0
 
 -- who is served first of those that ask for s; 0 where none asks
 unfoldable pub served : Tables → List Train → ℕ → ℕ

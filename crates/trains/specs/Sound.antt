@@ -2,22 +2,22 @@
 -- T are the tables of the area, A its allocations, due the step due, t the number of a train, x the train, p where it stands, s a
 -- segment, h who holds it.
 use Prim.Native.Nat.{ℕ, _+_}
-use mathlib.Core.Bool.{Bool, not, _&&_, _||_}
+use mathlib.Core.Bool.{Bool, _&&_, _||_}
 use mathlib.Core.List.{List}
 use lib.Dec.{leb, ltb, eqb}
-use Rattle.lists.specs.Words.{if_then_else_, _⇔_, at}
+use Rattle.lists.specs.Words.{if_then_else_, at}
 use Rattle.braking.specs.Braking.{S, B}
 use Rattle.tables.specs.declared.Tables.{Tables}
 use Rattle.trains.specs.declared.Train.{Train}
 use Rattle.trains.specs.declared.Spot.{Spot}
 use Rattle.trains.specs.Due.{speedDue, grantDue}
-use Rattle.trains.specs.Train.{trainAt, isOn, occupiedIn, aheadIn}
+use Rattle.trains.specs.Train.{asking, trainAt, isOn, occupiedIn, aheadIn}
 use Rattle.trains.specs.Spot.{spotOf}
 use Rattle.trains.specs.Cycle.{wants}
 
 -- a train off is all zero
 abbrev pub offSound : Train → Bool
-offSound x = eqb (x .place) 0 && eqb (x .position) 0 && eqb (x .speed) 0 && not (x .asks)
+offSound x = eqb (x .place) 0 && eqb (x .position) 0 && eqb (x .speed) 0 && eqb (x .asks) 0
 
 -- a train on: route 1 to R, place 1 to the route's count, position < length, speed ≤ limit; its own segment is allocated to it
 unfoldable pub placeSound : (R : ℕ) → Spot → Train → Bool
@@ -39,7 +39,7 @@ brakingSound b due p x =
 
 -- it asks exactly when grant is due, it is near and next exists and isn't its own
 unfoldable pub askingSound : (due : ℕ) → Spot → Train → Bool
-askingSound due p x = x .asks ⇔ (eqb due grantDue && wants p)
+askingSound due p x = eqb (x .asks) (asking (eqb due grantDue && wants p))
 
 -- all of it, of a train that stands at p
 unfoldable pub standsSound : (R b due : ℕ) → Spot → Train → Bool

@@ -11,7 +11,7 @@ use Rattle.tables.specs.declared.Tables.{Tables}
 use Rattle.tables.specs.Tables.{countOf}
 use Rattle.trains.specs.declared.Train.{Train}
 use Rattle.trains.specs.Due.{speedDue, grantDue}
-use Rattle.trains.specs.Train.{trainAt, ownLength, ownLimit, nextLimit, holdsNext, occupied, ahead}
+use Rattle.trains.specs.Train.{asking, trainAt, ownLength, ownLimit, nextLimit, holdsNext, occupied, ahead}
 use Rattle.trains.specs.Spot.{spotOf}
 use Rattle.trains.specs.Cycle.{wants}
 use Rattle.trains.specs.Sound.{toRun}
@@ -28,7 +28,8 @@ pub record SoundTrain (T : Tables) (A : List ℕ) (due t : ℕ) (x : Train) : Ty
   pub stops : holdsNext T (at A) t x ≡ false → x .position + toRun (T .braking) due (x .speed) < ownLength T x
   -- while next is allocated to it, another step is due and position + speed ≥ length
   pub next : holdsNext T (at A) t x ≡ true → speedDue < due → ownLength T x ≤ x .position + x .speed → x .speed ≤ nextLimit T x
-  pub asks : x .asks ≡ (eqb due grantDue && wants (spotOf T (at A) t x))
+  -- asking is 1 exactly then, and 0 otherwise
+  pub asks : x .asks ≡ asking (eqb due grantDue && wants (spotOf T (at A) t x))
 
 -- an allocation that is not 0
 pub record SoundAllocation (T : Tables) (trains : List Train) (s h : ℕ) : Type 0 where

@@ -1,7 +1,7 @@
 -- A train of an area: the five forms in which one is written, and what is said of one (document 01, "The calls").
 -- T are the tables of the area, t the number of the train, x the train, s a segment.
 use Prim.Native.Nat.{ℕ, _+_, _-_}
-use mathlib.Core.Bool.{Bool, false, _&&_}
+use mathlib.Core.Bool.{Bool, _&&_}
 use mathlib.Core.List.{List}
 use lib.Dec.{leb, ltb, eqb}
 use Rattle.lists.specs.Words.{if_then_else_, nth, at}
@@ -15,18 +15,22 @@ mostTrains = 24
 
 -- a train off: all zero
 abbrev pub off : Train
-off = record { route = 0; place = 0; position = 0; speed = 0; asks = false }
+off = record { route = 0; place = 0; position = 0; speed = 0; asks = 0 }
 
 -- a train that enters: position 0 of the route's first segment
 abbrev pub entered : ℕ → ℕ → Train
-entered r v = record { route = r; place = 1; position = 0; speed = v; asks = false }
+entered r v = record { route = r; place = 1; position = 0; speed = v; asks = 0 }
+
+-- asking as a number: 1 where it asks, 0 where it does not
+abbrev pub asking : Bool → ℕ
+asking q = if q then 1 else 0
 
 -- a train with another speed, with another asking, and further on: at place p of its route, position i there
 abbrev pub withSpeed : Train → ℕ → Train
 withSpeed x v = record { route = x .route; place = x .place; position = x .position; speed = v; asks = x .asks }
 
 abbrev pub withAsking : Train → Bool → Train
-withAsking x q = record { route = x .route; place = x .place; position = x .position; speed = x .speed; asks = q }
+withAsking x q = record { route = x .route; place = x .place; position = x .position; speed = x .speed; asks = asking q }
 
 abbrev pub movedTo : Train → ℕ → ℕ → Train
 movedTo x p i = record { route = x .route; place = p; position = i; speed = x .speed; asks = x .asks }

@@ -1,13 +1,14 @@
 // A train of an area by value, and where one stands.
 
 // Route and place are counted from 1; route 0 is a train off, which is all zero. Position in decimetres, speed in decimetres
-// per cycle.
+// per cycle. Asks: 1 where it does, 0 where it does not.
+#[repr(C)]
 pub struct Train {
     pub route: u8,
     pub place: u8,
     pub position: u32,
     pub speed: u16,
-    pub asks: bool,
+    pub asks: u8,
 }
 
 // Where a train stands: its route's count; its own segment's length and limit, and whether that is allocated to it; its next, the

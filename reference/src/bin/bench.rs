@@ -1,6 +1,8 @@
-//! The core and the second program on the same inputs, in one process: microseconds each and the ratio core / second program.
-//! Both test the whole record at every call. In the replays the buffers for answers and state are not cleared between runs; for a
-//! single call the state is copied anew before each run, with and without the call.
+//! The core and the second program on the same inputs, in one process: microseconds each and the ratio core / second program. Then the
+//! core alone: a call on a record that is kept, and the same call inside a run.
+//! Both programs test the whole record at every call. In the replays the buffers for answers and state are not cleared between runs; for
+//! a single call the state, or the kept record, is copied anew before each run, with and without the call.
+use reference::kept::{call_kept, kept_of};
 use reference::script::{items_of, script_of};
 use reference::*;
 use std::hint::black_box;
@@ -39,34 +41,52 @@ fn line(what: &str, core: f64, second: f64) {
 }
 
 fn loads(name: &str, file: &[u8]) {
-    let (core, second) = time(2000, || unit::load(black_box(file)), || load(black_box(file)).is_ok());
+    let (core, second) = time(2000, || rbu::bytes::load(black_box(file)), || load(black_box(file)).is_ok());
     line(&format!("load, {name}"), core, second);
 }
 
+/// A call's times: inside a run of the core, on a record that the core keeps, and with the second program.
+struct Times {
+    name: String,
+    core: f64,
+    kept: f64,
+    second: f64,
+}
+
+impl Times {
+    fn mean(name: String, times: &[Times]) -> Times {
+        let mean = |part: fn(&Times) -> f64| times.iter().map(part).sum::<f64>() / times.len() as f64;
+        Times { name, core: mean(|x| x.core), kept: mean(|x| x.kept), second: mean(|x| x.second) }
+    }
+}
+
 /// One call on a record, less what handing the record over takes.
-fn one_call(name: &str, file: &[u8], area: &Area, call: &Call) -> (f64, f64) {
+fn one_call(name: String, file: &[u8], area: &Area, call: &Call) -> Times {
     let script = items_of(call);
-    let before = unit::state_of(&area.record());
+    let before = state_of(&area.record());
     let core_run = |script: &[u16]| {
         let (mut answer, mut state) = ([0], before);
-        (unit::run_record(file, script, &mut answer, &mut state), state)
+        (rbu::bytes::run_record(file, script, &mut answer, &mut state), state)
+    };
+    let kept = rbu::Area::of_record(kept_of(&area.record()));
+    let kept_run = |call: Option<&Call>| {
+        let mut area = black_box(&kept).clone();
+        (call.map(|call| call_kept(&mut area, call)), area)
     };
     let second_run = |call: Option<&Call>| {
         let mut area = black_box(*area);
         (call.map(|call| area.call(call)), area)
     };
-    let (cores, seconds) = (0..201)
-        .map(|_| {
-            let core = beyond(&mut || core_run(&script), &mut || core_run(&[]));
-            (core, beyond(&mut || second_run(Some(call)), &mut || second_run(None)))
-        })
-        .unzip();
-    let (core, second) = (middle(cores), middle(seconds));
+    let (mut cores, mut kepts, mut seconds) = (vec![], vec![], vec![]);
+    for _ in 0..201 {
+        cores.push(beyond(&mut || core_run(&script), &mut || core_run(&[])));
+        kepts.push(beyond(&mut || kept_run(Some(call)), &mut || kept_run(None)));
+        seconds.push(beyond(&mut || second_run(Some(call)), &mut || second_run(None)));
+    }
     let (mut after, mut answer) = (*area, [99]);
-    unit::run_record(file, &script, &mut answer, &mut { before });
-    assert_eq!((answer[0], after.call(call)), (0, 0), "{name} is answered done");
-    line(name, core, second);
-    (core, second)
+    rbu::bytes::run_record(file, &script, &mut answer, &mut { before });
+    assert_eq!((answer[0], kept_run(Some(call)).0, after.call(call)), (0, Some(0), 0), "{name} is answered done");
+    Times { name, core: middle(cores), kept: middle(kepts), second: middle(seconds) }
 }
 
 /// The area with a train standing at the start of its route's last segment.
@@ -79,8 +99,9 @@ fn at_the_last(area: &Area, number: u8) -> Area {
     Area::from_record(&record).expect("the record is sound")
 }
 
-/// The calls of a cycle one after the other, and a train that leaves and enters anew, each on the record where it is answered done.
-fn calls(name: &str, description: &Description, trains: u16) {
+/// The calls of a cycle one after the other, and a train that leaves and enters anew, each on the record where it is answered done;
+/// and their mean.
+fn calls(name: &str, description: &Description, trains: u16) -> Vec<Times> {
     let file = description.file();
     let mut area = load(&file).expect("the area is accepted");
     (1..=trains).for_each(|t| assert_eq!(area.enter(t, t, 200), 0));
@@ -90,19 +111,20 @@ fn calls(name: &str, description: &Description, trains: u16) {
     }
     let mut times = vec![];
     for (step, call) in ["speed", "request", "grant", "position"].into_iter().zip(&AREA_A_CYCLE) {
-        times.push(one_call(&format!("{step}, {name}"), &file, &area, call));
+        times.push(one_call(format!("{step}, {name}"), &file, &area, call));
         area.call(call);
     }
     let mut area = at_the_last(&area, trains as u8);
     for (step, call) in [("leave", Call::Leave { train: trains }), ("enter", Call::Enter { train: trains, route: trains, speed: 0 })] {
-        times.push(one_call(&format!("{step}, {name}"), &file, &area, &call));
+        times.push(one_call(format!("{step}, {name}"), &file, &area, &call));
         area.call(&call);
     }
-    let sum = |part: fn(&(f64, f64)) -> f64| times.iter().map(part).sum::<f64>() / times.len() as f64;
-    line(&format!("mean call, {name}"), sum(|x| x.0), sum(|x| x.1));
+    times.push(Times::mean(format!("mean call, {name}"), &times));
+    times
 }
 
-fn replay(name: &str, description: &Description, trains: u16) {
+/// A list of calls, by call: from the file by all three, in one run, call by call on a kept record, and with the second program.
+fn replay(name: &str, description: &Description, trains: u16) -> Times {
     let file = description.file();
     let mut calls: Vec<Call> = (1..=trains).map(|t| Call::Enter { train: t, route: t, speed: 200 }).collect();
     for _ in 0..200 {
@@ -111,6 +133,14 @@ fn replay(name: &str, description: &Description, trains: u16) {
     let script = script_of(&calls);
     let mut answers = vec![0; calls.len()];
     let mut state = [0; STATE_SIZE];
+    let mut core_run = || rbu::bytes::run_file(&file, &script, &mut answers, &mut state);
+    let kept_run = || {
+        let mut area = rbu::Area::start(&file).expect("the area is accepted");
+        for call in &calls {
+            black_box(call_kept(&mut area, call));
+        }
+        area
+    };
     let second_run = || {
         let mut area = load(&file).expect("the area is accepted");
         for call in &calls {
@@ -118,19 +148,26 @@ fn replay(name: &str, description: &Description, trains: u16) {
         }
         area
     };
-    let (core, second) = time(20, || unit::run_file(&file, &script, &mut answers, &mut state), second_run);
-    line(&format!("replay of {} calls, {name}, a call", calls.len()), core / calls.len() as f64, second / calls.len() as f64);
+    let count = calls.len() as f64;
+    let (core, second) = time(20, &mut core_run, second_run);
+    let (again, kept) = time(20, &mut core_run, kept_run);
+    let name = format!("replay of {} calls, {name}, a call", calls.len());
+    Times { name, core: core.min(again) / count, kept: kept / count, second: second / count }
 }
 
 fn main() {
     println!("the core and the second program on the same inputs; each of the single calls is answered done");
     println!("in the replays the buffers are not cleared between runs;");
-    println!("for a single call the state is copied anew before each run, with and without the call");
+    println!("for a single call the state, or the kept record, is copied anew before each run, with and without the call");
     println!("{:40} {:>9} {:>9} {:>8}", "microseconds", "core", "second", "ratio");
     loads("Area A", &area_a().file());
     loads("full area", &full_area().file());
-    calls("Area A", &area_a(), 2);
-    calls("full area", &full_area(), TRAINS.into());
-    replay("Area A", &area_a(), 2);
-    replay("full area", &full_area(), TRAINS.into());
+    let mut times = calls("Area A", &area_a(), 2);
+    times.extend(calls("full area", &full_area(), TRAINS.into()));
+    times.push(replay("Area A", &area_a(), 2));
+    times.push(replay("full area", &full_area(), TRAINS.into()));
+    times.iter().for_each(|one| line(&one.name, one.core, one.second));
+    println!("a call on a record that is kept, and the same call inside a run; the ratio is to be 1.3 at the most");
+    println!("{:40} {:>9} {:>9} {:>8}", "microseconds", "kept", "in a run", "ratio");
+    times.iter().for_each(|one| line(&one.name, one.kept, one.core));
 }

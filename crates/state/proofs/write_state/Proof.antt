@@ -1,13 +1,15 @@
--- The 64 bytes before the trains and after them the trains' rows are put one after the other, which is to put the whole state.
-use mathlib.Core.Path.{_≡_, _∙_}
+-- The bytes of the state are put into the buffer, and read back as the record, whose arrays have their lengths.
+use mathlib.Core.Path.{_≡_}
 use lib.ListN.{length}
 use borrow.Author.Needs.{needs}
-use Rattle.state.proofs.Laws.{state-put}
+use Rattle.lists.proofs.Numbered.{long-of}
+use Rattle.state.specs.State.{stateInto}
+use Rattle.state.proofs.Back.{state-back}
 use Rattle.state.proofs.write_state.Statement.{statement}
 use Rattle.state.proofs.write_state.Tie as tie
 
-head-bytes-requires : tie.Need-head-bytes-requires
-head-bytes-requires c κs = search needs
+state-bytes-requires : tie.Need-state-bytes-requires
+state-bytes-requires c κs = search needs
 
 slice-aggregate-put : tie.Need-slice-aggregate-put
 slice-aggregate-put c = search needs
@@ -15,29 +17,19 @@ slice-aggregate-put c = search needs
 put-requires : tie.Need-put-requires
 put-requires c κs = search needs
 
-write-trains-requires : tie.Need-write-trains-requires
-write-trains-requires c κs = search needs
-
 same-length : tie.Need-same-length
 same-length c = search needs
 
-long : (c : tie.After-head-bytes) → length (c .before .before .before .before .args .area .allocations) ≡ 62
-long c = search needs
-
 returns : tie.Need-returns
+unfolding stateInto
 returns c =
-    let rows = c .before .before in
-    let put = rows .before .before .before .before in
-    let head = put .before .before .before in
-    rows .write-trains .ensures ∙ rw (put .put .ensures, head .head-bytes .ensures) (state-put _ _ (long head))
+    let bytes = c .before .before .before .before .before in
+    let a = bytes .before .before .args .area in
+    let segments : length (a .allocations) ≡ 62 = search needs in
+    let numbers : length (a .trains) ≡ 24 = search long-of in
+    let new = rw (bytes .state-bytes .ensures) at (c .before .before .put .ensures) in
+    (new, rw new (state-back a segments numbers _))
 
 pub write-state-spec : {M : Type 1} → statement M
 write-state-spec =
-    tie.close
-    (tie.spec
-    head-bytes-requires
-    slice-aggregate-put
-    put-requires
-    write-trains-requires
-    same-length
-    returns)
+    tie.close (tie.spec state-bytes-requires slice-aggregate-put put-requires same-length returns)

@@ -1,5 +1,5 @@
-//! Files: load's answer, the views of routes, and what a list and a report make of a refused file.
-use crate::{counted, fail, loaded, same, same_state};
+//! Files: load's answer, the views of routes, and what a list and a start make of them.
+use crate::{counted, fail, kept, loaded, same, same_state};
 use reference::breaks::{from_rule, BREAKS, PLACES};
 use reference::random::{self, Random};
 use reference::script::script_of;
@@ -34,8 +34,9 @@ const EXTREMES: [(&str, Has); 14] = [
 ];
 
 /// What the files came to, for the counts.
-struct Seen {
+struct Seen<'a> {
     seed: u64,
+    kept: &'a mut kept::Seen,
     files: u32,
     rules: [u32; 11],
     views: u32,
@@ -46,10 +47,11 @@ struct Seen {
     random_beyond_3: u32,
 }
 
-pub fn compare(seed: u64) {
+pub fn compare(seed: u64, kept: &mut kept::Seen) {
     let mut random = Random::new(seed);
     let mut seen = Seen {
         seed,
+        kept,
         files: 0,
         rules: [0; 11],
         views: 0,
@@ -74,11 +76,11 @@ pub fn compare(seed: u64) {
     seen.print();
 }
 
-impl Seen {
+impl Seen<'_> {
     /// One file: the number of its answer.
     fn file(&mut self, random: &mut Random, file: &[u8], what: &str) -> u8 {
         let answer @ (number, _) = answer_of(file);
-        same(self.seed, what, unit::load(file), answer);
+        same(self.seed, what, rbu::bytes::load(file), answer);
         // of an accepted file the view of every route, of a refused one some number's
         let beyond = u16::from(ROUTES) + 1;
         let routes = match number {
@@ -87,27 +89,27 @@ impl Seen {
         };
         for route in routes {
             let view = route_view(file, route);
-            same(self.seed, "the view", unit::view(file, route), (route_view_start(file, route) as u32, view.len() as u32));
+            same(self.seed, "the view", rbu::bytes::view(file, route), (route_view_start(file, route) as u32, view.len() as u32));
             self.views += u32::from(!view.is_empty());
         }
-        if number != 0 {
-            self.refused(file, answer);
+        match number {
+            0 => _ = self.kept.start(file, &loaded(self.seed, file).record()),
+            _ => self.refused(file, answer),
         }
         self.files += 1;
         self.rules[usize::from(number)] += 1;
         number
     }
 
-    /// A refused file: no call is run, the report is refused, and the buffers are as they were.
-    fn refused(&self, file: &[u8], answer: (u8, u16)) {
+    /// A refused file: no call is run, and the buffers are as they were; a start leaves the blank record.
+    fn refused(&mut self, file: &[u8], answer: (u8, u16)) {
         let script = script_of(&[Call::Request, Call::Grant]);
         let (mut answers, mut state) = ([99; 4], [99; STATE_SIZE]);
-        let run = unit::run_file(file, &script, &mut answers, &mut state);
+        let run = rbu::bytes::run_file(file, &script, &mut answers, &mut state);
         same(self.seed, "a list from a refused file", run, (answer, 0));
-        let report = unit::report_file(file, &script, &mut answers);
-        same(self.seed, "the report on a refused file", report, (11, 0, 0));
         same(self.seed, "the answers after a refused file", answers, [99; 4]);
         same_state(self.seed, "the state after a refused file", &state, &[99; STATE_SIZE]);
+        self.kept.refused_start(file, answer);
     }
 
     /// Each condition of rules 1 to 10 broken alone. The answer is its rule, not only the same from both.

@@ -1,5 +1,6 @@
-//! Lists of calls: each answer and the state after each call, from the core's own record and from the file with the whole list;
-//! demand 3 on what the core hands back.
+//! Lists of calls: each answer and the state after each call, from the core's own record as bytes, on a record that it keeps, and from
+//! the file with the whole list; demand 3 on what the core hands back.
+use crate::kept::{self, Kept};
 use crate::{counted, fail, loaded, same, same_state, Answers};
 use reference::random::{self, Owned, Random};
 use reference::script::{items_of, script_of};
@@ -34,27 +35,30 @@ struct Seen {
     moved_on_to_0: u64,
     left: u64,
     cut: u64,
+    in_two: u64,
     wishes: [u64; SPEEDS.len()],
     entries: [u64; SPEEDS.len()],
 }
 
-pub fn compare(seed: u64) {
+pub fn compare(seed: u64, kept: &mut kept::Seen) {
     let mut random = Random::new(seed);
     let mut seen = Seen::default();
     while seen.calls < CALLS {
         let lively = !random.one_in(4);
         let area = random::area(&mut random, lively);
-        let mut list = List::new(seed, seen.lists + 1, &area);
+        let mut list = List::new(seed, seen.lists + 1, &area, kept);
         for _ in 0..random.within(0, 700) {
             let call = random::call(&mut random, &area, list.record.due);
             let before = list.record;
-            let number = list.call(call);
+            let number = list.call(call, kept);
             seen.note(&list.calls[list.calls.len() - 1], number, &before, &list.record);
         }
         list.whole();
         if random.one_in(8) && !list.calls.is_empty() {
             list.with_less_room(&mut random);
             seen.cut += 1;
+            list.in_two(&mut random);
+            seen.in_two += 1;
         }
         seen.lists += 1;
     }
@@ -89,7 +93,7 @@ impl Seen {
 
     fn note_grant(&mut self, before: &Record, after: &Record) {
         let mut asking = [0; SEGMENTS as usize];
-        for (number, train) in (1..).zip(&before.trains).filter(|(_, train)| train.asks) {
+        for (number, train) in (1..).zip(&before.trains).filter(|(_, train)| train.asks == 1) {
             let next = train.next(&before.tables).expect("a train that asks has a next");
             asking[usize::from(next) - 1] += 1;
             self.without += u64::from(after.allocated(next) != number);
@@ -110,6 +114,7 @@ impl Seen {
         counted("lists: trains moved on to position 0", self.moved_on_to_0, 1);
         counted("lists: trains that left", self.left, 1);
         counted("lists: cut by a buffer with less room", self.cut, 1);
+        counted("lists: run in two parts, the second from the state after the first", self.in_two, 1);
         for ((name, _), (wishes, entries)) in SPEEDS.iter().zip(self.wishes.into_iter().zip(self.entries)) {
             counted(format_args!("lists: wishes at {name}"), wishes, 1);
             counted(format_args!("lists: entries at {name}"), entries, 1);
@@ -133,36 +138,42 @@ struct List {
     /// the second program's
     record: Record,
     demand: Demand3,
+    /// the core's, kept from call to call
+    kept: Kept,
     calls: Vec<Owned>,
     numbers: Vec<u8>,
-    /// the core's, after load and after each call
+    /// the core's as bytes, after load and after each call
     states: Vec<[u8; STATE_SIZE]>,
 }
 
 impl List {
-    fn new(seed: u64, which: u64, area: &Description) -> List {
+    fn new(seed: u64, which: u64, area: &Description, kept: &mut kept::Seen) -> List {
         let file = area.file();
         let area = loaded(seed, &file);
         let record = area.record();
         let mut state = [99; STATE_SIZE];
-        let ran = unit::run_file(&file, &[], &mut [], &mut state);
+        let ran = rbu::bytes::run_file(&file, &[], &mut [], &mut state);
         same(seed, "a list without calls", ran, ((0, 0), 0));
-        same_state(seed, "the state after load", &state, &unit::state_of(&record));
+        same_state(seed, "the state after load", &state, &state_of(&record));
         let demand = Demand3::new(area.tables());
-        List { seed, which, file, area, record, demand, calls: vec![], numbers: vec![], states: vec![state] }
+        let kept = kept.start(&file, &record);
+        List { seed, which, file, area, record, demand, kept, calls: vec![], numbers: vec![], states: vec![state] }
     }
 
-    /// The next call: the core has it on the record that it handed back last. "The built calls give the same answers, and the record
-    /// handed back holds the same trains on, routes, step due, speeds and allocations": here the whole state; then demand 3.
-    fn call(&mut self, owned: Owned) -> u8 {
+    /// The next call: the core has it on the record that it handed back last, and on the one that it keeps. "The built calls give the
+    /// same answers, and the record handed back holds the same trains on, routes, step due, speeds and allocations": here the whole
+    /// state; then demand 3.
+    fn call(&mut self, owned: Owned, kept: &mut kept::Seen) -> u8 {
         let (list, call) = (self.which, self.calls.len() + 1);
         let number = self.area.call(&owned.call());
         self.record = self.area.record();
         let (mut answer, mut state) = ([99], self.states[self.calls.len()]);
-        let ran = unit::run_record(&self.file, &items_of(&owned.call()), &mut answer, &mut state);
+        let ran = rbu::bytes::run_record(&self.file, &items_of(&owned.call()), &mut answer, &mut state);
         same(self.seed, format_args!("list {list}, call {call}, its answer"), (ran, answer[0]), (1, number));
-        same_state(self.seed, format_args!("list {list}, call {call}, the state after it"), &state, &unit::state_of(&self.record));
-        let core = unit::record_of(self.area.tables(), &state);
+        same_state(self.seed, format_args!("list {list}, call {call}, the state after it"), &state, &state_of(&self.record));
+        let what = format_args!("list {list}, call {call}");
+        kept.call_of_list(what, &mut self.kept, &owned.call(), number, &self.area, &self.record);
+        let core = record_of(self.area.tables(), &state);
         if let Err(broken) = self.demand.tell(&owned.call(), answer[0], &core) {
             fail(format_args!("list {list}, call {call}: demand 3 is broken: {broken} (seed {})", self.seed));
         }
@@ -181,16 +192,14 @@ impl List {
         let script = self.script();
         let mut answers = vec![99; self.calls.len() + 3];
         let mut state = [99; STATE_SIZE + 5];
-        let (answer, ran) = unit::run_file(&self.file, &script, &mut answers, &mut state);
+        let (answer, ran) = rbu::bytes::run_file(&self.file, &script, &mut answers, &mut state);
         same(self.seed, "load before a list", answer, (0, 0));
         same(self.seed, "the number of calls", ran, self.calls.len());
         same(self.seed, "the answers of a list", &answers[..ran], &self.numbers[..]);
         same(self.seed, "what the buffer has beyond the answers", &answers[ran..], &[99; 3][..]);
-        same_state(self.seed, "the state after a list", &state[..STATE_SIZE], &unit::state_of(&self.record));
+        same_state(self.seed, "the state after a list", &state[..STATE_SIZE], &state_of(&self.record));
         same(self.seed, "what the buffer has beyond the state", &state[STATE_SIZE..], &[99; 5][..]);
-        let (number, allocated, free) = self.area.report();
-        let report = unit::report_file(&self.file, &script, &mut answers);
-        same(self.seed, "the report after a list", report, (number, allocated as u8, free as u8));
+        self.kept.same_report(self.seed, "the record after a list", self.area.report());
     }
 
     /// A buffer with less room for the answers ends the list earlier; one with less room for the state gets a part of it.
@@ -199,9 +208,24 @@ impl List {
         let size = random.within(0, STATE_SIZE as u64) as usize;
         let mut answers = vec![99; room];
         let mut state = vec![99; size];
-        let (_, ran) = unit::run_file(&self.file, &self.script(), &mut answers, &mut state);
+        let (_, ran) = rbu::bytes::run_file(&self.file, &self.script(), &mut answers, &mut state);
         same(self.seed, "the number of calls where there is less room", ran, room);
         same(self.seed, "the answers where there is less room", &answers[..], &self.numbers[..room]);
         same_state(self.seed, "the state where there is less room", &state, &self.states[room][..size]);
+    }
+    /// The list in two parts: the state that the first wrote, read back, continues the run. The buffer may be longer than a state.
+    fn in_two(&self, random: &mut Random) {
+        let first = random.within(0, self.calls.len() as u64) as usize;
+        let script = self.script();
+        let (before, after) = script.split_at(ITEMS * first);
+        let mut answers = vec![99; self.calls.len()];
+        let mut state = vec![99; STATE_SIZE + random.within(0, 5) as usize];
+        let (_, ran) = rbu::bytes::run_file(&self.file, before, &mut answers[..first], &mut state);
+        same(self.seed, "the number of calls of a first part", ran, first);
+        let ran = rbu::bytes::run_record(&self.file, after, &mut answers[first..], &mut state);
+        same(self.seed, "the number of calls of a second part", ran, self.calls.len() - first);
+        same(self.seed, "the answers of a list in two parts", &answers, &self.numbers);
+        same_state(self.seed, "the state after a list in two parts", &state[..STATE_SIZE], &state_of(&self.record));
+        same(self.seed, "what the buffer has beyond the state", &state[STATE_SIZE..], &vec![99; state.len() - STATE_SIZE][..]);
     }
 }

@@ -1,9 +1,11 @@
-//! The core against the second program: braking, Area A's listing, files, lists of calls, records. Seeded and repeatable; it
-//! prints counts, and ends with status 1 at the first difference and at a count that is too low.
+//! The core against the second program: braking, Area A's listing, files, lists of calls, records; each call by the functions over
+//! bytes and on a record that is kept. Seeded and repeatable; it prints counts, and ends with status 1 at the first difference and at
+//! a count that is too low.
 //!
 //!     compare             the whole comparison
 //!     compare SEED        the same with another seed
 mod files;
+mod kept;
 mod lists;
 mod records;
 
@@ -53,21 +55,24 @@ fn loaded(seed: u64, file: &[u8]) -> Area {
 }
 
 /// Document 01's listing, from both programs.
-fn listing(seed: u64) {
+fn listing(seed: u64, seen: &mut kept::Seen) {
     let file = area_a().file();
-    let mut calls = AREA_A_ENTRIES.to_vec();
+    let mut calls = vec![];
     let mut area = loaded(seed, &file);
-    calls.iter().for_each(|call| same(seed, "an entry", 0, area.call(call)));
-    for cycle in 1..=6 {
-        for call in AREA_A_CYCLE {
-            same(seed, "a step", 0, area.call(&call));
-            calls.push(call);
+    let mut kept = seen.start(&file, &area.record());
+    let cycles = (1..=6).map(|cycle| (cycle, &AREA_A_CYCLE[..]));
+    for (cycle, steps) in [(0, &AREA_A_ENTRIES[..])].into_iter().chain(cycles) {
+        for call in steps {
+            same(seed, "a call of the listing", 0, area.call(call));
+            seen.call_of_list("a call of the listing", &mut kept, call, 0, &area, &area.record());
+            calls.push(*call);
         }
         let (mut answers, mut state) = ([99; 26], [99; STATE_SIZE]);
-        unit::run_file(&file, &script_of(&calls), &mut answers, &mut state);
-        same_state(seed, "the state after a cycle of Area A", &state, &unit::state_of(&area.record()));
-        let core = unit::record_of(area.tables(), &state);
-        for (number, train) in (1..).zip(&core.trains[..2]) {
+        rbu::bytes::run_file(&file, &script_of(&calls), &mut answers, &mut state);
+        same_state(seed, "the state after a cycle of Area A", &state, &state_of(&area.record()));
+        let core = record_of(area.tables(), &state);
+        // the entries are no cycle
+        for (number, train) in (1..).zip(&core.trains[..2]).filter(|_| cycle > 0) {
             println!("listing: {cycle} {number} {} {} {}", train.own(&core.tables), train.position, train.speed);
         }
     }
@@ -77,8 +82,8 @@ fn listing(seed: u64) {
 fn braking(seed: u64) {
     for b in 1..=TOP_SPEED {
         for v in 0..=TOP_SPEED {
-            same(seed, "S", u64::from(unit::braking_distance(b, v)), s(b.into(), v.into()));
-            same(seed, "B", u64::from(unit::braking_distance(b, v.saturating_sub(b))), b_rest(b.into(), v.into()));
+            same(seed, "S", u64::from(rbu::braking_distance(b, v)), s(b.into(), v.into()));
+            same(seed, "B", u64::from(rbu::braking_distance(b, v.saturating_sub(b))), b_rest(b.into(), v.into()));
         }
     }
     println!("braking: S and B compared for every speed to {TOP_SPEED} and every rate to {TOP_SPEED}");
@@ -86,10 +91,12 @@ fn braking(seed: u64) {
 
 fn main() {
     let seed = std::env::args().nth(1).map_or(1, |seed| seed.parse().expect("compare: the seed is a number"));
+    let mut kept = kept::Seen::new(seed);
     braking(seed);
-    listing(seed);
-    files::compare(seed);
-    lists::compare(seed);
-    records::compare(seed);
+    listing(seed, &mut kept);
+    files::compare(seed, &mut kept);
+    lists::compare(seed, &mut kept);
+    records::compare(seed, &mut kept);
+    kept.print();
     println!("compare: no difference");
 }

@@ -1,5 +1,6 @@
-//! Records that no run has reached: the sound test, the report, and a call with the record that it hands back.
-use crate::{counted, fail, loaded, same, same_state, Answers};
+//! Records that no run has reached: the sound test, the report, and a call with the record that it hands back, of the record as bytes
+//! and as one that is kept.
+use crate::{counted, fail, kept, loaded, same, same_state, Answers};
 use reference::breaks::{from_rule, PLACES};
 use reference::edges::{record_at, sound_record, EDGES};
 use reference::random::{self, Random};
@@ -39,7 +40,7 @@ struct Seen {
     answers: Answers,
 }
 
-pub fn compare(seed: u64) {
+pub fn compare(seed: u64, kept: &mut kept::Seen) {
     let mut random = Random::new(seed);
     let mut seen = Seen { seed, records: 0, sound: 0, kinds: [0; KINDS.len()], edges: [0; EDGES.len()], answers: Answers::default() };
     while seen.records < RECORDS {
@@ -54,35 +55,40 @@ pub fn compare(seed: u64) {
         for _ in 0..20 {
             // the record just reached is no new one
             if let Some(made) = make(&mut random, &area, &reached).filter(|made| made.record != reached) {
-                seen.record(&mut random, &area, &made);
+                seen.record(&mut random, &area, &made, kept);
             }
+        }
+        for _ in 0..4 {
+            let call = random::call(&mut random, &area, reached.due);
+            kept.damaged(&mut random, &reached, &call.call());
         }
     }
     seen.print();
 }
 
 impl Seen {
-    fn record(&mut self, random: &mut Random, area: &Description, made: &Made) {
+    fn record(&mut self, random: &mut Random, area: &Description, made: &Made, kept: &mut kept::Seen) {
         let Made { file, record, .. } = made;
         let what = match made.kind {
             Kind::Of(k) => KINDS[k],
             Kind::At(k) => EDGES[k].name,
         };
-        let mut state = unit::state_of(record);
+        let mut state = state_of(record);
         let is_sound = sound(record);
-        same(self.seed, format_args!("a record's soundness ({what})"), unit::sound(file, &state), is_sound);
+        same(self.seed, format_args!("a record's soundness ({what})"), rbu::bytes::sound(file, &state), is_sound);
         if made.sound.is_some_and(|known| known != is_sound) {
             fail(format_args!("a record's soundness ({what}): both programs say {is_sound} (seed {})", self.seed));
         }
         let (number, allocated, free) = report_on(record);
-        let report = unit::report_record(file, &state);
+        let report = rbu::bytes::report_record(file, &state);
         same(self.seed, format_args!("a record's report ({what})"), report, (number, allocated as u8, free as u8));
         let call = random::call(random, area, record.due);
         let (number, after) = call_on(record, &call.call());
         let mut answer = [99];
-        let ran = unit::run_record(file, &items_of(&call.call()), &mut answer, &mut state);
+        let ran = rbu::bytes::run_record(file, &items_of(&call.call()), &mut answer, &mut state);
         same(self.seed, format_args!("a call on a record ({what})"), (ran, answer[0]), (1, number));
-        same_state(self.seed, format_args!("the state after a call on a record ({what})"), &state, &unit::state_of(&after));
+        same_state(self.seed, format_args!("the state after a call on a record ({what})"), &state, &state_of(&after));
+        kept.record(format_args!("a record ({what})"), record, &call.call());
         self.records += 1;
         self.sound += u32::from(is_sound);
         self.answers[usize::from(number)] += 1;
@@ -152,7 +158,7 @@ fn of_random_bytes(random: &mut Random, mut file: Vec<u8>) -> Made {
         file = (0..FILE_SIZE).map(|_| random.draw() as u8).collect();
     }
     let state: [u8; STATE_SIZE] = std::array::from_fn(|_| random.draw() as u8);
-    let record = unit::record_of(&decode_tables(&file), &state);
+    let record = record_of(&decode_tables(&file), &state);
     Made { file, record, sound: None, kind: Kind::Of(3) }
 }
 
@@ -160,16 +166,17 @@ fn of_random_bytes(random: &mut Random, mut file: Vec<u8>) -> Made {
 fn spoil(random: &mut Random, record: &mut Record) {
     let t = random.within(0, u64::from(TRAINS) - 1) as usize;
     let train = &mut record.trains[t];
-    match random.draw() % 11 {
+    match random.draw() % 12 {
         0 => train.route = random.edgy(0, u64::from(ROUTES) + 1) as u8,
         1 => train.place = random.edgy(0, u64::from(ROUTE_SEGMENTS) + 1) as u8,
         2 => train.position = random.edgy(0, LONGEST.into()) as u32,
         3 => train.position = train.position.saturating_add(random.within(1, 2000) as u32),
         4 => train.speed = random.edgy(0, u64::from(TOP_SPEED) + 1) as u16,
-        5 => train.asks = !train.asks,
+        5 => train.asks ^= 1,
         6 => record.due = random.within(0, 4) as u8,
         7 | 8 => record.allocations[random.within(0, u64::from(SEGMENTS) - 1) as usize] = random.edgy(0, u64::from(TRAINS) + 1) as u8,
         9 => *train = RawTrain::OFF,
+        10 => train.asks = random.edgy(2, 255) as u8,
         _ => train.position = u32::MAX,
     }
 }

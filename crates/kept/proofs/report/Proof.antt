@@ -1,0 +1,20 @@
+use mathlib.Core.Path.{ap, _∙_}
+use borrow.Author.Needs.{needs}
+use Rattle.area.specs.declared.Report.{Report}
+use Rattle.answers.specs.Answers.{numberOf}
+use Rattle.kept.proofs.report.Statement.{statement}
+use Rattle.kept.proofs.report.Tie as tie
+
+report-requires : tie.Need-report-requires
+report-requires c κs = search needs
+
+number-of-requires : tie.Need-number-of-requires
+number-of-requires c κs = search needs
+
+returns : tie.Need-returns
+returns c =
+    let e = c .before .report .ensures in
+    (c .number-of .ensures ∙ ap (λ (x : Report). numberOf (x .answer)) e, (ap (λ (x : Report). x .allocated) e, ap (λ (x : Report). x .free) e))
+
+pub report-spec : {M : Type 1} → statement M
+report-spec = tie.close (tie.spec report-requires number-of-requires returns)

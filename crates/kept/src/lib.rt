@@ -1,0 +1,102 @@
+// The calls on a record that a caller keeps between them, told by value: the answer's number, and the record to keep. `Started` and
+// `Answered` say what each does, and what holds of a record that was started by load and handed from call to call.
+ghost use mathlib.Core.Path.{_≡_};
+ghost use Rattle.answers.specs.Answers.{numberOf};
+ghost use Rattle.area.specs.Calls.{reported};
+ghost use Rattle.separation.specs.Calls.{Enter, Leave, Speed, Request, Grant, Position};
+ghost use Rattle.kept.specs.Kept.{Started, Answered};
+use area::Area;
+use area::Outcome;
+
+// The number and the place of load's answer, and the record to keep.
+pub struct ToldStart {
+    pub number: u8,
+    pub place: u16,
+    pub area: Area,
+}
+
+// The number of a call's answer, and the record to keep.
+pub struct Told {
+    pub number: u8,
+    pub area: Area,
+}
+
+// The number of the answer to a report, and the report's two numbers.
+pub struct ToldReport {
+    pub number: u8,
+    pub allocated: u8,
+    pub free: u8,
+}
+
+pub fn start(file: &[u8]) -> ToldStart
+    ensures { λ r. ⌜ Started (now (file .entry)) (r .number) (r .place) (r .area) ⌝ }
+{
+    let o = loading::load(file);
+    let answer = o.answer;
+    let area = o.area;
+    let number = answers::number_of(answer);
+    let place = answers::place_of(answer);
+    ToldStart {
+        number,
+        place,
+        area,
+    }
+}
+
+fn tell(o: Outcome) -> Told
+    ensures { λ r. ⌜ (r .number ≡ numberOf (o .answer)) × (r .area ≡ o .area) ⌝ }
+{
+    let answer = o.answer;
+    let area = o.area;
+    let number = answers::number_of(answer);
+    Told { number, area }
+}
+
+pub fn enter(area: Area, train: u16, route: u16, speed: u16) -> Told
+    ensures { λ r. ⌜ Answered area (Enter train route speed) (r .number) (r .area) ⌝ }
+{
+    tell(area.enter(train, route, speed))
+}
+
+pub fn leave(area: Area, train: u16) -> Told
+    ensures { λ r. ⌜ Answered area (Leave train) (r .number) (r .area) ⌝ }
+{
+    tell(area.leave(train))
+}
+
+pub fn speed(area: Area, wishes: &[u16]) -> Told
+    ensures { λ r. ⌜ Answered area (Speed (now (wishes .entry))) (r .number) (r .area) ⌝ }
+{
+    tell(area.speed(wishes))
+}
+
+pub fn request(area: Area) -> Told
+    ensures { λ r. ⌜ Answered area Request (r .number) (r .area) ⌝ }
+{
+    tell(area.request())
+}
+
+pub fn grant(area: Area) -> Told
+    ensures { λ r. ⌜ Answered area Grant (r .number) (r .area) ⌝ }
+{
+    tell(area.grant())
+}
+
+pub fn position(area: Area) -> Told
+    ensures { λ r. ⌜ Answered area Position (r .number) (r .area) ⌝ }
+{
+    tell(area.position())
+}
+
+pub fn report(area: Area) -> ToldReport
+    ensures { λ r. ⌜ (r .number ≡ numberOf (reported area .answer)) × ((r .allocated ≡ reported area .allocated) × (r .free ≡ reported area .free)) ⌝ }
+{
+    let report = area.report();
+    let answer = report.answer;
+    let number = answers::number_of(answer);
+    ToldReport {
+        number,
+        allocated: report.allocated,
+        free: report.free,
+    }
+}

@@ -1,0 +1,4 @@
+pub mod Further
+pub mod Laws
+pub mod Steps
+pub mod Walk
