@@ -1,29 +1,32 @@
 // The tests of enter and leave in their order: the number of the first that holds, 0 where none does; `ok` says whether the record is
-// sound.
+// sound. What they read of the tables is lent, and the answer holds of all tables T that agree with it.
 ghost use mathlib.Core.Path.{_≡_};
 ghost use mathlib.Core.Bool.{not};
 ghost use mathlib.Core.List.{_∷_};
 ghost use Rattle.lists.specs.Tests.{_⇒_, firstOf};
+ghost use Rattle.tables.specs.declared.Tables.{Tables};
 ghost use Rattle.trains.specs.EnterLeave.{firstSegment, entryTests, exitTests};
-use tables::Tables;
 use trains::Train;
 
-// The refusal's number, and the segment that is entered where it is 0: handed on, since to lend the tables again is to copy them.
+// The refusal's number, and the segment that is entered where it is 0: handed on, so that the route is not read again.
 pub struct Entry {
     pub number: u8,
     pub first: u8,
 }
 
-pub fn enter_refusal(
+pub fn enter_refusal<'a>(
     ok: bool,
-    tables: Tables,
-    allocations: [u8; 62],
+    routes: u8,
+    routebytes: &'a [u8; 960],
+    flags: &'a [u8; 62],
+    limits: &'a [u16; 62],
+    allocations: &'a [u8; 62],
     trains: [Train; 24],
     train: u16,
     route: u16,
     speed: u16,
 ) -> Entry
-    ensures { λ r. ⌜ (r .number ≡ firstOf (not ok ⇒ 11 ∷ entryTests tables allocations trains train route speed) .number) × (r .number ≡ 0 → r .first ≡ firstSegment tables route) ⌝ }
+    ensures { λ r. ⌜ ((T : Tables) → T .routes ≡ routes → T .routebytes ≡ now (routebytes .entry) → T .flags ≡ now (flags .entry) → T .limits ≡ now (limits .entry) → (r .number ≡ firstOf (not ok ⇒ 11 ∷ entryTests T (now (allocations .entry)) trains train route speed) .number) × (r .number ≡ 0 → r .first ≡ firstSegment T route)) ⌝ }
 {
     if !ok {
         return Entry {
@@ -44,25 +47,25 @@ pub fn enter_refusal(
             first: 0,
         };
     }
-    if (route == 0) | ((tables.routes as u16) < route) {
+    if (route == 0) | ((routes as u16) < route) {
         return Entry {
             number: 16,
             first: 0,
         };
     }
-    let first = lookups::segment_at(&tables.routebytes, route as u8, 1);
-    let number = enter_leave::first_segment_refusal(
-        &tables.flags,
-        &allocations,
-        &tables.limits,
-        first,
-        speed,
-    );
+    let first = lookups::segment_at(routebytes, route as u8, 1);
+    let number = enter_leave::first_segment_refusal(flags, allocations, limits, first, speed);
     Entry { number, first }
 }
 
-pub fn leave_refusal(ok: bool, tables: Tables, trains: [Train; 24], train: u16) -> u8
-    ensures { λ r. ⌜ r ≡ firstOf (not ok ⇒ 11 ∷ exitTests tables trains train) .number ⌝ }
+pub fn leave_refusal<'a>(
+    ok: bool,
+    routebytes: &'a [u8; 960],
+    flags: &'a [u8; 62],
+    trains: [Train; 24],
+    train: u16,
+) -> u8
+    ensures { λ r. ⌜ ((T : Tables) → T .routebytes ≡ now (routebytes .entry) → T .flags ≡ now (flags .entry) → r ≡ firstOf (not ok ⇒ 11 ∷ exitTests T trains train) .number) ⌝ }
 {
     if !ok {
         return 11;
@@ -74,7 +77,7 @@ pub fn leave_refusal(ok: bool, tables: Tables, trains: [Train; 24], train: u16) 
     if x.route == 0 {
         return 15;
     }
-    if !enter_leave::at_exit(&tables.routebytes, &tables.flags, x) {
+    if !enter_leave::at_exit(routebytes, flags, x) {
         return 20;
     }
     0

@@ -10,10 +10,14 @@ use Rattle.lists.proofs.Refusals.{passed, absent, first-none, first-number, pla
 use Rattle.trains.specs.declared.Spot.{Spot}
 use Rattle.standing.specs.Spots.{spotsOf}
 use Rattle.answers.specs.Answers.{answerOf}
+use Rattle.answers.proofs.Answers.{number-of-answer}
 use Rattle.area.specs.declared.Area.{Area}
+use Rattle.area.specs.declared.Outcome.{Outcome}
+use Rattle.area.specs.declared.Change.{Change}
 use Rattle.area.specs.declared.Examined.{Examined}
 use Rattle.area.specs.Sound.{sound}
-use Rattle.area.specs.Calls.{outcome}
+use Rattle.area.specs.Calls.{outcome, changeOf}
+use Rattle.area.specs.Examined.{examinedOf}
 
 module _ (tests : List Test) {number : ℕ} (first : number ≡ firstOf tests .number) where
   -- no test holds where the number is 0
@@ -35,8 +39,22 @@ module _ (tests : List Test) {number : ℕ} (first : number ≡ firstOf tests .n
         {made : Area} → absent 0 tests ≡ true → number ≡ 0 → made ≡ new → record { answer = answerOf 0 0; area = made } ≡ outcome tests new old
     finished-by out zero same = rw (first-none tests (none-holds out zero), same)
 
--- what an examination finds, by its two parts
+-- ---- what a call changes, and its outcome, which has the tables beside it
+pub change-by :
+    (number : ℕ) (a : Area) {o : Outcome} → record { answer = answerOf number 0; area = a } ≡ o
+    → _≡_ {A = Change} (record { number = number; allocations = a .allocations; trains = a .trains; due = a .due }) (changeOf o)
+change-by number a e = rw (sym (number-of-answer number 0)) (ap changeOf e)
+
+pub outcome-by :
+    (tests : List Test) (new old : Area) → placeless tests ≡ true → new .tables ≡ old .tables → {x : Change} → x ≡ changeOf (outcome tests new old)
+    → record { answer = answerOf (x .number) 0; area = record { tables = old .tables; allocations = x .allocations; trains = x .trains; due = x .due } }
+    ≡ outcome tests new old
+outcome-by tests new old plain same e =
+    rw (e, first-placeless tests plain, number-of-answer (firstOf tests .number) 0)
+    (by-test (firstOf tests .holds) (λ h. rw h) (λ h. rw (h, ← same)))
+
+-- what an examination finds, by its three parts
 pub found-by :
     (a : Area) {ok : Bool} {spots : List Spot} → ok ≡ sound a → spots ≡ spotsOf (a .tables) (a .allocations) (a .trains)
-    → _≡_ {A = Examined} (record { ok = ok; spots = spots }) (record { ok = sound a; spots = spotsOf (a .tables) (a .allocations) (a .trains) })
+    → _≡_ {A = Examined} (record { ok = ok; spots = spots; trains = a .trains }) (examinedOf a)
 found-by a e f = rw (e, f)

@@ -15,8 +15,9 @@ use Rattle.trains.specs.Grant.{granted, calmed}
 use Rattle.trains.specs.EnterLeave.{firstSegment, takenBy, freedBy, becomes, entryTests, exitTests}
 use Rattle.area.specs.declared.Area.{Area}
 use Rattle.area.specs.declared.Outcome.{Outcome}
+use Rattle.area.specs.declared.Change.{Change}
 use Rattle.area.specs.declared.Report.{Report}
-use Rattle.answers.specs.Answers.{answerOf}
+use Rattle.answers.specs.Answers.{answerOf, numberOf}
 use Rattle.area.specs.Sound.{sound}
 
 -- the first test that holds refuses; where none does, the step is finished
@@ -25,6 +26,10 @@ outcomeBy t new old = record { answer = answerOf (t .number) (t .place); area = 
 
 abbrev pub outcome : List Test → Area → Area → Outcome
 outcome tests new old = outcomeBy (firstOf tests) new old
+
+-- an outcome without the tables, which are those handed in
+abbrev pub changeOf : Outcome → Change
+changeOf o = record { number = numberOf (o .answer); allocations = o .area .allocations; trains = o .area .trains; due = o .area .due }
 
 -- 12: a cycle step not due
 abbrev pub notDue : ℕ → Area → Bool

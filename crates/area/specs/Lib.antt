@@ -1,3 +1,4 @@
 pub mod Sound
 pub mod SoundFacts
 pub mod Calls
+pub mod Examined

@@ -1,11 +1,12 @@
 // What becomes of all trains and allocations at speed, request and position. Speed and request read where each train stands;
-// position takes the tables by value once, whose arrays are lent to the leaves.
+// position is lent the arrays of the tables that it reads.
 ghost use mathlib.Core.Path.{_≡_};
 ghost use Prim.Native.Nat.{ℕ};
 ghost use lib.Dec.{eqb};
 ghost use Rattle.lists.specs.Words.{if_then_else_, at, each};
-ghost use Rattle.trains.specs.Train.{trainAt, ownOf};
-ghost use Rattle.trains.specs.Cycle.{spedAt, requestedAt, movesOn, moved, freed};
+ghost use Rattle.tables.specs.declared.Tables.{Tables};
+ghost use Rattle.trains.specs.Train.{trainAt, ownIn};
+ghost use Rattle.trains.specs.Cycle.{spedAt, requestedAt, movesIn, movedIn, freed};
 ghost use Rattle.standing.specs.Spots.{spotAt};
 ghost use Rattle.steps.specs.Room.{Room};
 use lists::entry_u16;
@@ -15,7 +16,6 @@ use steps::moved_train;
 use steps::released_one;
 use steps::requested_train;
 use steps::sped_train;
-use tables::Tables;
 use trains::Spot;
 use trains::Train;
 
@@ -48,30 +48,34 @@ pub fn requested_all(spots: [Spot; 24], trains: [Train; 24]) -> [Train; 24]
 }
 
 // A train off keeps its zeros: it has no segment, no position and no speed.
-pub fn moved_all(tables: Tables, trains: [Train; 24]) -> [Train; 24]
+pub fn moved_all<'a>(
+    routebytes: &'a [u8; 960],
+    lengths: &'a [u32; 62],
+    trains: [Train; 24],
+) -> [Train; 24]
     requires { ⌜ ((t : ℕ) → Room (trainAt trains t)) ⌝ }
-    ensures { λ r. ⌜ r ≡ each (λ t. moved tables) trains ⌝ }
+    ensures { λ r. ⌜ r ≡ each (λ t x. movedIn (at (now (lengths .entry)) (ownIn (now (routebytes .entry)) x)) x) trains ⌝ }
 {
     let mut new = trains;
     let mut i: usize = 0;
     while i < 24 {
         let x = trains[i];
-        let own = standing::own_of(&tables.routebytes, x);
-        let length = entry_u32(&tables.lengths, own as usize);
+        let own = standing::own_of(routebytes, x);
+        let length = entry_u32(lengths, own as usize);
         new[i] = moved_train(length, x);
         i += 1;
     }
     new
 }
 
-fn left_all(tables: Tables, trains: [Train; 24]) -> [u8; 24]
-    ensures { λ r. ⌜ r ≡ each (λ t x. if movesOn tables x then ownOf tables x else 0) trains ⌝ }
+fn left_all<'a>(routebytes: &'a [u8; 960], lengths: &'a [u32; 62], trains: [Train; 24]) -> [u8; 24]
+    ensures { λ r. ⌜ r ≡ each (λ t x. if movesIn (at (now (lengths .entry)) (ownIn (now (routebytes .entry)) x)) x then ownIn (now (routebytes .entry)) x else 0) trains ⌝ }
 {
     let mut new = [0u8; 24];
     let mut i: usize = 0;
     while i < 24 {
         let x = trains[i];
-        new[i] = left_by(&tables.routebytes, &tables.lengths, x);
+        new[i] = left_by(routebytes, lengths, x);
         i += 1;
     }
     new
@@ -89,8 +93,13 @@ fn released_by(left: [u8; 24], allocations: [u8; 62]) -> [u8; 62]
     new
 }
 
-pub fn released_all(tables: Tables, trains: [Train; 24], allocations: [u8; 62]) -> [u8; 62]
-    ensures { λ r. ⌜ r ≡ each (freed tables trains) allocations ⌝ }
+pub fn released_all<'a>(
+    routebytes: &'a [u8; 960],
+    lengths: &'a [u32; 62],
+    trains: [Train; 24],
+    allocations: [u8; 62],
+) -> [u8; 62]
+    ensures { λ r. ⌜ ((T : Tables) → T .routebytes ≡ now (routebytes .entry) → T .lengths ≡ now (lengths .entry) → r ≡ each (freed T trains) allocations) ⌝ }
 {
-    released_by(left_all(tables, trains), allocations)
+    released_by(left_all(routebytes, lengths, trains), allocations)
 }

@@ -1,11 +1,11 @@
-// What becomes of the trains and of the allocations at grant. Tables come by value once; their arrays are lent to the leaves.
+// What becomes of the trains and of the allocations at grant. Of the tables only the routes are read, which are lent.
 ghost use mathlib.Core.Path.{_≡_};
 ghost use lib.Dec.{eqb};
 ghost use Rattle.lists.specs.Words.{if_then_else_, at, each, tabulate, _orElse_, least};
+ghost use Rattle.tables.specs.declared.Tables.{Tables};
 ghost use Rattle.trains.specs.Train.{mostTrains, wantedIn};
-ghost use Rattle.trains.specs.Grant.{asked, granted, calmed};
+ghost use Rattle.trains.specs.Grant.{granted, calmed};
 use lists::entry_u8;
-use tables::Tables;
 use trains::Train;
 
 // The segment that a train asks for; 0 where it asks for none.
@@ -18,14 +18,14 @@ fn asked_by(routebytes: &[u8; 960], x: Train) -> u8
     0
 }
 
-fn asked_all(tables: Tables, trains: [Train; 24]) -> [u8; 24]
-    ensures { λ r. ⌜ r ≡ each (λ t. asked tables) trains ⌝ }
+fn asked_all(routebytes: &[u8; 960], trains: [Train; 24]) -> [u8; 24]
+    ensures { λ r. ⌜ r ≡ each (λ t x. if eqb (x .asks) 1 then wantedIn (now (routebytes .entry)) x else 0) trains ⌝ }
 {
     let mut new = [0u8; 24];
     let mut i: usize = 0;
     while i < 24 {
         let x = trains[i];
-        new[i] = asked_by(&tables.routebytes, x);
+        new[i] = asked_by(routebytes, x);
         i += 1;
     }
     new
@@ -80,10 +80,10 @@ fn granted_by(first: [u8; 62], allocations: [u8; 62]) -> [u8; 62]
     new
 }
 
-pub fn granted_all(tables: Tables, trains: [Train; 24], allocations: [u8; 62]) -> [u8; 62]
-    ensures { λ r. ⌜ r ≡ each (granted tables trains) allocations ⌝ }
+pub fn granted_all(routebytes: &[u8; 960], trains: [Train; 24], allocations: [u8; 62]) -> [u8; 62]
+    ensures { λ r. ⌜ ((T : Tables) → T .routebytes ≡ now (routebytes .entry) → r ≡ each (granted T trains) allocations) ⌝ }
 {
-    let asked = asked_all(tables, trains);
+    let asked = asked_all(routebytes, trains);
     granted_by(first_askers(&asked), allocations)
 }
 

@@ -6,21 +6,23 @@ use mathlib.Core.Bool.{false}
 use mathlib.Core.List.{List, [], _∷_, _++_}
 use native.Mathlib.Omega.{arith}
 use Rattle.lists.proofs.Cases.{is-false}
+use Rattle.tables.specs.declared.Tables.{Tables}
 use Rattle.reading.specs.Verdict.{accepted}
 use Rattle.reading.proofs.Accepted.{accepted-iff}
 use Rattle.answers.specs.Answers.{answerOf, numberOf, placeOf}
 use Rattle.area.specs.declared.Area.{Area}
+use Rattle.area.specs.declared.Change.{Change}
 use Rattle.area.specs.declared.Outcome.{Outcome}
 use Rattle.area.specs.Sound.{sound}
-use Rattle.area.specs.Calls.{enterCall, leaveCall, speedCall, requestCall, grantCall, positionCall}
+use Rattle.area.specs.Calls.{changeOf, enterCall, leaveCall, speedCall, requestCall, grantCall, positionCall}
 use Rattle.loading.specs.Load.{loaded}
 use Rattle.loading.proofs.Loading.{done-iff, refused-blank}
 use Rattle.loading.proofs.Fresh.{blank-unsound}
 use Rattle.separation.specs.Calls.{Call, Enter, Leave, Speed, Request, Grant, Position, called}
 use Rattle.separation.specs.Runs.{World, next, afterFrom, begin, after}
 use Rattle.separation.proofs.Demand3.{demand3}
-use Rattle.kept.specs.declared.Told.{Told}
-use Rattle.kept.specs.Kept.{Reached, Kept, Answered, Started}
+use Rattle.separation.proofs.Tables.{called-tables}
+use Rattle.kept.specs.Kept.{Reached, Kept, Answered, Started, changed}
 
 -- the list worked through with a call at its end is that call after the list
 from-more : (w : World) (calls : List Call) (c : Call) → afterFrom w (calls ++ (c ∷ [])) ≡ next (afterFrom w calls) c
@@ -32,22 +34,24 @@ area-more : (file : List ℕ) (calls : List Call) (c : Call) → after file (cal
 unfolding after next
 area-more file calls c = ap (λ (w : World). w .area) (from-more (begin (loaded file .area)) calls c)
 
+-- a record with other tables
+abbrev with-tables : Tables → Area → Area
+with-tables T a = record { tables = T; allocations = a .allocations; trains = a .trains; due = a .due }
+
 -- a record that a list reaches is kept, since demand 3 holds of every list
 kept : (file : List ℕ) (calls : List Call) (a : Area) → Reached file calls a → Kept file calls a
 kept file calls a r = record { reached = r; separated = demand3 file (r .done) calls }
 
--- what is told of an outcome that is the call's
-pub answered :
-    (a : Area) (c : Call) (o : Outcome) → o ≡ called a c → (t : Told) → (t .number ≡ numberOf (o .answer)) × (t .area ≡ o .area)
-    → Answered a c (t .number) (t .area)
-answered a c o e t f =
-    let same = f .1 ∙ ap (λ (x : Outcome). x .area) e in
+-- what is changed of a record, by a call's outcome, is the record that the call hands back
+pub answered : (a : Area) (c : Call) (r : Change) → r ≡ changeOf (called a c) → Answered a c (r .number) (changed a r)
+answered a c r e =
+    let same : changed a r ≡ called a c .area = ap (changed a) e ∙ ap (λ (T : Tables). with-tables T (called a c .area)) (sym (called-tables a c)) in
     record {
-      number = f .0 ∙ ap (λ (x : Outcome). numberOf (x .answer)) e;
+      number = ap (λ (x : Change). x .number) e;
       area = same;
       onward =
           λ file calls was.
-          kept file (calls ++ (c ∷ [])) (t .area)
+          kept file (calls ++ (c ∷ [])) (changed a r)
           (record { done = was .done; same = same ∙ ap (λ (x : Area). called x c .area) (was .same) ∙ sym (area-more file calls c) });
     }
 

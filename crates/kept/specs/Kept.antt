@@ -6,6 +6,7 @@ use mathlib.Core.List.{List, [], _∷_, _++_}
 use Rattle.decoding.specs.Decoding.{decoded}
 use Rattle.answers.specs.Answers.{numberOf, placeOf}
 use Rattle.area.specs.declared.Area.{Area}
+use Rattle.area.specs.declared.Change.{Change}
 use Rattle.loading.specs.Load.{loaded}
 use Rattle.separation.specs.Calls.{Call, called}
 use Rattle.separation.specs.Runs.{after}
@@ -27,6 +28,10 @@ pub record Answered (a : Area) (c : Call) (n : ℕ) (b : Area) : Type 0 where
   pub number : n ≡ numberOf (called a c .answer)
   pub area : b ≡ called a c .area
   pub onward : (file : List ℕ) (calls : List Call) → Reached file calls a → Kept file (calls ++ (c ∷ [])) b
+
+-- a record with what a call changed of it: the tables stay
+abbrev pub changed : Area → Change → Area
+changed a r = record { tables = a .tables; allocations = r .allocations; trains = r .trains; due = r .due }
 
 -- load's answer to a file, and the record that it gives: where the answer is done, the record after the empty list of calls; where it is
 -- not, one on which every call answers 11 and changes nothing

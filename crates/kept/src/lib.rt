@@ -1,23 +1,17 @@
-// The calls on a record that a caller keeps between them, told by value: the answer's number, and the record to keep. `Started` and
+// The calls on a record that a caller keeps between them, told by value: the answer's number, and what is changed of the record. `Started` and
 // `Answered` say what each does, and what holds of a record that was started by load and handed from call to call.
 ghost use mathlib.Core.Path.{_≡_};
 ghost use Rattle.answers.specs.Answers.{numberOf};
 ghost use Rattle.area.specs.Calls.{reported};
 ghost use Rattle.separation.specs.Calls.{Enter, Leave, Speed, Request, Grant, Position};
-ghost use Rattle.kept.specs.Kept.{Started, Answered};
+ghost use Rattle.kept.specs.Kept.{Started, Answered, changed};
 use area::Area;
-use area::Outcome;
+use area::Change;
 
 // The number and the place of load's answer, and the record to keep.
 pub struct ToldStart {
     pub number: u8,
     pub place: u16,
-    pub area: Area,
-}
-
-// The number of a call's answer, and the record to keep.
-pub struct Told {
-    pub number: u8,
     pub area: Area,
 }
 
@@ -43,49 +37,40 @@ pub fn start(file: &[u8]) -> ToldStart
     }
 }
 
-fn tell(o: Outcome) -> Told
-    ensures { λ r. ⌜ (r .number ≡ numberOf (o .answer)) × (r .area ≡ o .area) ⌝ }
+pub fn enter(area: Area, train: u16, route: u16, speed: u16) -> Change
+    ensures { λ r. ⌜ Answered area (Enter train route speed) (r .number) (changed area r) ⌝ }
 {
-    let answer = o.answer;
-    let area = o.area;
-    let number = answers::number_of(answer);
-    Told { number, area }
+    area.enter_change(train, route, speed)
 }
 
-pub fn enter(area: Area, train: u16, route: u16, speed: u16) -> Told
-    ensures { λ r. ⌜ Answered area (Enter train route speed) (r .number) (r .area) ⌝ }
+pub fn leave(area: Area, train: u16) -> Change
+    ensures { λ r. ⌜ Answered area (Leave train) (r .number) (changed area r) ⌝ }
 {
-    tell(area.enter(train, route, speed))
+    area.leave_change(train)
 }
 
-pub fn leave(area: Area, train: u16) -> Told
-    ensures { λ r. ⌜ Answered area (Leave train) (r .number) (r .area) ⌝ }
+pub fn speed(area: Area, wishes: &[u16]) -> Change
+    ensures { λ r. ⌜ Answered area (Speed (now (wishes .entry))) (r .number) (changed area r) ⌝ }
 {
-    tell(area.leave(train))
+    area.speed_change(wishes)
 }
 
-pub fn speed(area: Area, wishes: &[u16]) -> Told
-    ensures { λ r. ⌜ Answered area (Speed (now (wishes .entry))) (r .number) (r .area) ⌝ }
+pub fn request(area: Area) -> Change
+    ensures { λ r. ⌜ Answered area Request (r .number) (changed area r) ⌝ }
 {
-    tell(area.speed(wishes))
+    area.request_change()
 }
 
-pub fn request(area: Area) -> Told
-    ensures { λ r. ⌜ Answered area Request (r .number) (r .area) ⌝ }
+pub fn grant(area: Area) -> Change
+    ensures { λ r. ⌜ Answered area Grant (r .number) (changed area r) ⌝ }
 {
-    tell(area.request())
+    area.grant_change()
 }
 
-pub fn grant(area: Area) -> Told
-    ensures { λ r. ⌜ Answered area Grant (r .number) (r .area) ⌝ }
+pub fn position(area: Area) -> Change
+    ensures { λ r. ⌜ Answered area Position (r .number) (changed area r) ⌝ }
 {
-    tell(area.grant())
-}
-
-pub fn position(area: Area) -> Told
-    ensures { λ r. ⌜ Answered area Position (r .number) (r .area) ⌝ }
-{
-    tell(area.position())
+    area.position_change()
 }
 
 pub fn report(area: Area) -> ToldReport

@@ -21,7 +21,7 @@ use contract.Lifetimes.{Lfts, Shares, AllOutlive, toks}
 use contract.Running.{GhostRules, Running, givenOf, tables, tablesOf}
 use types.Kit.{Given, prop, Item, ‵, raw, _⊛_, Sq, _$_, _∵_, !, qed, move, keep, drop, use0, use1, split, join, rewrite, fsplit, fsplit3, fjoin, fjoin3, feqI, suffices, frame, done}
 use types.Run.{look, look-raw, init, store-raw, forget, stop, hop, fld, from, load, and-then, no-more, of-opd, assigns, land, returns, enter, alloc1, alloc0, params1, pass1, pass0, free1, free0}
-use types.Part.{whole, sub, look-in}
+use types.Part.{whole, sub, look-in, store-in}
 use package.sound.WpLaws.{FmC, fmOf, WpFn-mono}
 use denote.RattleType.{Denots, owns, flat}
 use denote.Laws.{Is, Are, Ises, Spells, Tellss, valss, shows}
@@ -31,8 +31,7 @@ use denote.Builtin.{u8, u16, bool}
 use denote.Slice.{sliceTy, ShrSlice, slice-vals, shr-slice-tells}
 use denote.Ref.{now, ptr-vals, mut-tells, shr-tells}
 use denote.Signature.{Slot, plain, mutRefTo, shrRefTo, shrSliceOf, typesAt}
-use denote.Steps.{only, opens, closes, owned, peeks, nothing}
-use denote.Struct.Steps.{spelt}
+use denote.Steps.{only, owned, peeks, nothing}
 use denote.Struct.Laws as LL
 use denote.Exit.{yes}
 use denote.Triple.End.{all}
@@ -46,22 +45,22 @@ use Rattle.answers.specs.Answers.{numberOf}
 use Rattle.area.specs.declared.Area.{Area}
 use Rattle.area.specs.Sound.{sound}
 use Rattle.area.specs.Calls.{reported}
-use Rattle.kept.specs.declared.Told.{Told}
+use Rattle.area.specs.declared.Change.{Change}
 use Rattle.area.proofs.Area as Rec
 use Rattle.area.proofs.Area.Laws as Rec′
 use Rattle.kept.specs.declared.ToldStart.{ToldStart}
-use Rattle.kept.specs.Kept.{Started}
+use Rattle.kept.specs.Kept.{Started, changed}
 use Rattle.kept.specs.declared.ToldReport.{ToldReport}
 use Rattle.kept.proofs.ToldReport as G
 use Rattle.kept.proofs.ToldReport.Laws as G′
 use Rattle.kept.proofs.ToldStart as F
 use Rattle.kept.proofs.ToldStart.Laws as F′
-use Rattle.kept.proofs.Told as S
-use Rattle.kept.proofs.Told.Laws as S′
+use Rattle.area.proofs.Change as S
+use Rattle.area.proofs.Change.Laws as S′
 use Rattle.rbu.proofs.rbu_start as start
 use Rattle.rbu.proofs.rbu_report as report
 use Rattle.rbu.proofs.rbu_is_sound as is-sound
-use Rattle.rbu.proofs.Steps.{record-vals, record-typed, record-tells, record-makes, Says, Callee, asks, Held, stored, looked, shut}
+use Rattle.rbu.proofs.Steps.{record-vals, record-typed, record-tells, record-makes, Says, Callee, asks, Held, opened-up, closed-at, stored, unraw, looked, shut}
 use Rattle.rbu.proofs.Further.{Further, ours, theirs, stays, all-go, handed, spells, all-tell, vals, their-vals, same-owned, ends, fit, none-had, there, brought, past, locals, copies, env, beyond, alloc-all, pass-all, free-all, read-all}
 
 -- ---- a call on a record that is lent
@@ -75,7 +74,7 @@ module _ {m : ℕ} (fs : List (Further m)) where
   abbrev stayed : Stays (lent .signature .params) (lent .kept)
   stayed = (stay-ref (0 ∷ []) tt (plain (λ κs. Rec.the-row)), stays fs)
 
-  -- the MIR, whose last two locals are the record before the call and what is told of it
+  -- the MIR, whose last two locals are the record before the call and what it changes
   abbrev calling : Name → Fn
   calling k =
       record {
@@ -86,16 +85,18 @@ module _ {m : ℕ} (fs : List (Further m)) where
         body =
             seq (assign (place (suc (suc (past fs 0))) []) (rvOpd (copy (place 1 (deref Rec′.mir ∷ [])))))
             (seq (call k (copy (place (suc (suc (past fs 0))) []) ∷ copies fs (λ j. suc (suc j))) (place (suc (suc (past fs 1))) []))
-            (seq (assign (place 1 (deref Rec′.mir ∷ [])) (rvOpd (copy (place (suc (suc (past fs 1))) (field 1 ∷ [])))))
-            (seq (assign (place 0 []) (rvOpd (copy (place (suc (suc (past fs 1))) (field 0 ∷ []))))) return)));
+            (seq (assign (place 1 (deref Rec′.mir ∷ field 1 ∷ [])) (rvOpd (copy (place (suc (suc (past fs 1))) (field 1 ∷ [])))))
+            (seq (assign (place 1 (deref Rec′.mir ∷ field 2 ∷ [])) (rvOpd (copy (place (suc (suc (past fs 1))) (field 2 ∷ [])))))
+            (seq (assign (place 1 (deref Rec′.mir ∷ field 3 ∷ [])) (rvOpd (copy (place (suc (suc (past fs 1))) (field 3 ∷ [])))))
+            (seq (assign (place 0 []) (rvOpd (copy (place (suc (suc (past fs 1))) (field 0 ∷ []))))) return)))));
       }
 
-  -- what is said of the further arguments, the record, the number and the record handed back
+  -- what is said of the further arguments, the record, the number and the record after the call
   abbrev Means : Type 1
   Means = (κs : Lfts m) → Denots (typesAt (theirs fs) κs) → Area → ℕ → Area → Type 0
 
-  abbrev of-told : Means → Says theirs-all S.the-row
-  of-told Said κs a r = Said κs (a .1) (a .0) (r .number) (r .area)
+  abbrev of-change : Means → Says theirs-all S.the-row
+  of-change Said κs a r = Said κs (a .1) (a .0) (r .number) (changed (a .0) r)
 
 module _ {M : Type 1} (𝓤 : URA M) {m : ℕ} (fs : List (Further m)) (Said : Means fs) where
   abbrev lent-says : Clauses 𝓤 (lent fs)
@@ -111,13 +112,16 @@ module _ {M : Type 1} (𝓤 : URA M) (H : Heap 𝓤) (A : Atoms 𝓤) (W : Given
   abbrev Post : Val → SProp 𝓤
   Post = walkOf 𝓤 H A (lent fs) (stayed fs) (lent-says 𝓤 fs Said) .post ((κs, qs, tt, a, at), tt)
 
-  exits : (r : Told) → Said (κs .1) (handed κs fs (a .1)) (now (a .0)) (r .number) (r .area) → r .number < 2 ^ 8 → Sq W (Held Rec.the-row (κs .0) (qs .0) (a .0) (r .area) (Others ∷ [])) (prop (Post (vint w8 (r .number))))
+  abbrev after : Change → Area
+  after r = changed (now (a .0)) r
+
+  exits : (r : Change) → Said (κs .1) (handed κs fs (a .1)) (now (a .0)) (r .number) (after r) → r .number < 2 ^ 8 → Sq W (Held Rec.the-row (κs .0) (qs .0) (a .0) (after r) (Others ∷ [])) (prop (Post (vint w8 (r .number))))
   exits r e fits =
-      suffices ! _ (ends-at 𝓤 H A (lent fs) (stayed fs) (lent-says 𝓤 fs Said) W ((κs, qs, tt, a, at), tt) (vint w8 (r .number)) (r .number) (r .area, ends κs fs (a .1)) (tt, fit κs fs (a .1))) $ says ! e $ move ! (2 ∷ 3 ∷ []) $ join ! $ frame ! $
+      suffices ! _ (ends-at 𝓤 H A (lent fs) (stayed fs) (lent-says 𝓤 fs Said) W ((κs, qs, tt, a, at), tt) (vint w8 (r .number)) (r .number) (after r, ends κs fs (a .1)) (tt, fit κs fs (a .1))) $ says ! e $ move ! (2 ∷ 3 ∷ []) $ join ! $ frame ! $
       feqI ! (List Val) (ptr-vals (a .0)) (ptr-vals (a .0)) refl $ fjoin3 ! $ use0 W (‵ (hasOf κs (ours fs) (all yes (ours fs)) (stays fs) (a .1) (ends κs fs (a .1)) (vals κs fs (a .1)))) (none-had κs 𝓤 H A fs (a .1)) $ move ! (1 ∷ 0 ∷ []) $ fjoin ! $
       owned ! u8 (Is u8) (uint-makes 𝓤 H A W w8) (r .number) _ (refl, fits) $ move ! (1 ∷ 0 ∷ []) $ done !
 
-  module _ (C : Calls 𝓤 H) (Λ : Loops 𝓤 H) (fm : FmC 𝓤 H (W .laws) C) (k : Name) (known : Triple 𝓤 (C k) (Callee 𝓤 H A (theirs-all fs) S.the-row (of-told fs Said))) where
+  module _ (C : Calls 𝓤 H) (Λ : Loops 𝓤 H) (fm : FmC 𝓤 H (W .laws) C) (k : Name) (known : Triple 𝓤 (C k) (Callee 𝓤 H A (theirs-all fs) S.the-row (of-change fs Said))) where
     walk : Are (typesAt (ours fs) κs) (Ises (typesAt (ours fs) κs)) (a .1) (vals κs fs (a .1)) → ent 𝓤 (onEntry 𝓤 H A (lent fs .signature) κs qs a at) (WpFn 𝓤 H C Λ (calling fs k) (flat (typesAt (lent fs .signature .params) κs) at) Post)
     walk are =
         qed W ((‵ (flft (κs .0) (qs .0)) ⊛ Others) ∷ ‵ (owns (typesAt (lent fs .signature .params) κs) a at) ∷ []) ∵ split ! $ move ! (2 ∷ []) $ fsplit ! $ fsplit3 ! $ drop ! $ move ! (0 ∷ 1 ∷ 3 ∷ []) $
@@ -128,24 +132,26 @@ module _ {M : Type 1} (𝓤 : URA M) (H : Heap 𝓤) (A : Atoms 𝓤) (W : Given
         let R : Env 𝓤 H = (Rec′.mir, l₂) ∷ (S′.mir, l₃) ∷ [] in
         let E : Env 𝓤 H = (tyInt w8, l₀) ∷ (tyRef (named 0) mut (pointee (Rec.the-row .written)), l₁) ∷ (env fs bs ++ R) in
         params1 ! $ pass1 ! (init ! 5 refl (tt, tt)) $ move ! (4 ∷ []) $ pass-all κs fs bs (a .1) are R $
-        -- [their cells; room for what is told; …; for the record; …; _1; …; room for _0; …; obs; the borrow; its token; what they own; the other tokens]
-        move ! (9 ∷ 10 ∷ 11 ∷ []) $ opens ! tt Rec.the-row {h = a .0 .now} (a .0 .ptr .0) (a .0 .ptr .1) (λ vs. spelt ! Rec.the-row (Is Rec.the-row) (shows 𝓤 H A Rec.the-row) record-vals record-tells fullShare (a .0 .now) vs (a .0 .ptr .0) (a .0 .ptr .1) $
-        move ! (1 ∷ []) $ peeks ! Rec.the-row (Is Rec.the-row) (shows 𝓤 H A Rec.the-row) (a .0 .now) (record-vals (a .0 .now)) (λ was. move ! (1 ∷ 0 ∷ []) $
+        -- [their cells; room for what is changed; …; for the record; …; _1; …; room for _0; …; obs; the borrow; its token; what they own; the other tokens]
+        move ! (9 ∷ 10 ∷ 11 ∷ []) $ opened-up ! Rec.the-row record-vals record-tells (a .0) $ move ! (1 ∷ []) $ peeks ! Rec.the-row (Is Rec.the-row) (shows 𝓤 H A Rec.the-row) (a .0 .now) (record-vals (a .0 .now)) (λ was. move ! (1 ∷ 0 ∷ []) $
         assigns ! (of-opd ! (load ! (from ! (hop ! (look ! 10 refl) (stop !))) (look-raw ! 0 refl))) (there (beyond 𝓤 H fs bs R 0) (stop !)) (init ! 8 refl (record-typed 𝓤 H A W (a .0 .now) was)) $
-        closes ! tt Rec.the-row (a .0 .now) (record-vals (a .0 .now)) (a .0 .ptr .0) (a .0 .ptr .1) $
-        move ! (12 ∷ []) $ owned ! Rec.the-row (Is Rec.the-row) (record-makes 𝓤 H A) (a .0 .now) _ was $ fjoin ! $ move ! (0 ∷ 13 ∷ []) $
-        asks 𝓤 H A (theirs-all fs) S.the-row (of-told fs Said) W (κs .1) (qs .1) (a .0 .now, handed κs fs (a .1)) (record-vals (a .0 .now), their-vals κs fs (a .1)) ! fm known
+        closed-at ! Rec.the-row record-vals (record-makes 𝓤 H A) (a .0) (a .0 .now) was $ move ! (12 ∷ []) $ owned ! Rec.the-row (Is Rec.the-row) (record-makes 𝓤 H A) (a .0 .now) _ was $ fjoin ! $ move ! (0 ∷ 13 ∷ []) $
+        asks 𝓤 H A (theirs-all fs) S.the-row (of-change fs Said) W (κs .1) (qs .1) (a .0 .now, handed κs fs (a .1)) (record-vals (a .0 .now), their-vals κs fs (a .1)) ! fm known
         (brought 4 (and-then ! (load ! (there (beyond 𝓤 H fs bs R 0) (stop !)) (look ! 7 refl)) (read-all κs fs bs (a .1) R E (λ j. suc (suc j)) (λ j. refl)))) (λ v r e is.
-        -- [the other tokens; obs; the borrow; its token; their cells; room for what is told; …; the record; …; _1; …; room for _0; …]
+        -- [the other tokens; obs; the borrow; its token; their cells; room for what is changed; …; the record; …; _1; …; room for _0; …]
         let fields = LL.owed S.the-type S′.the-laws r _ is in
         land ! (there (beyond 𝓤 H fs bs R 1) (stop !)) (init ! 5 refl (LL.lawful S.the-type S′.the-laws 𝓤 H A W .typed r _ is .0)) $
         rewrite ! 5 (λ (u : Val). ‵ (fat fullShare S′.mir l₃ 0 u)) (ap only (LL.tells S.the-type S′.the-laws r (v ∷ []) is)) refl $ move ! (1 ∷ 2 ∷ 3 ∷ []) $
-        stored ! Rec.the-row record-vals record-tells (record-makes 𝓤 H A) (a .0) (r .area) (fields .1 .0)
-        (of-opd ! (load ! (there (beyond 𝓤 H fs bs R 1) (fld ! refl (stop !))) (look-in ! 7 (sub ! 1 refl (whole !))))) (from ! (hop ! (look ! 11 refl) (stop !))) (store-raw ! 0 refl (record-typed 𝓤 H A W (r .area) (fields .1 .0))) $
+        opened-up ! Rec.the-row record-vals record-tells (a .0) $
+        -- [the record's cell; what it owns; the open borrow; obs; auth; the other tokens; their cells; what is changed; …; the record; …; _1; …; room for _0; …]
+        assigns ! (of-opd ! (load ! (there (beyond 𝓤 H fs bs R 1) (fld ! refl (stop !))) (look-in ! 7 (sub ! 1 refl (whole !))))) (from ! (hop ! (look ! 11 refl) (fld ! refl (stop !)))) (store-in ! 0 (sub ! 1 refl (whole !)) (S′.the-laws .1 .0 .lawful 𝓤 H A W .typed (S.the-type .to r .1 .0) _ (fields .1 .0) .0)) $
+        assigns ! (of-opd ! (load ! (there (beyond 𝓤 H fs bs R 1) (fld ! refl (stop !))) (look-in ! 7 (sub ! 2 refl (whole !))))) (from ! (hop ! (look ! 11 refl) (fld ! refl (stop !)))) (store-in ! 0 (unraw (sub ! 2 refl (whole !))) (S′.the-laws .1 .1 .0 .lawful 𝓤 H A W .typed (S.the-type .to r .1 .1 .0) _ (fields .1 .1 .0) .0)) $
+        assigns ! (of-opd ! (load ! (there (beyond 𝓤 H fs bs R 1) (fld ! refl (stop !))) (look-in ! 7 (sub ! 3 refl (whole !))))) (from ! (hop ! (look ! 11 refl) (fld ! refl (stop !)))) (store-in ! 0 (sub ! 3 refl (whole !)) (tt, record { fits = fields .1 .1 .1 .0 .1 })) $
+        closed-at ! Rec.the-row record-vals (record-makes 𝓤 H A) (a .0) (after r) (LL.owes Rec.the-type Rec′.the-laws (after r) (LL.owed Rec.the-type Rec′.the-laws (now (a .0)) _ was .0, fields .1)) $
         assigns ! (of-opd ! (load ! (there (beyond 𝓤 H fs bs R 1) (fld ! refl (stop !))) (look-in ! 5 (sub ! 0 refl (whole !))))) (from ! (stop !)) (init ! 11 refl (tt, record { fits = fields .0 .1 })) $
         returns ! (look ! 11 refl) $ forget ! 5 refl $ forget ! 7 refl $ forget ! 9 refl $ forget ! 11 refl $
         move ! (11 ∷ 12 ∷ []) $ free1 ! $ move ! (9 ∷ 10 ∷ []) $ free1 ! $ move ! (4 ∷ []) $ free-all κs fs bs (a .1) $ move ! (6 ∷ 7 ∷ []) $ free1 ! $ move ! (4 ∷ 5 ∷ []) $ free1 ! $ free0 ! $
-        exits r e (fields .0 .1)))))))))
+        exits r e (fields .0 .1))))))))
 
 -- ---- load into a record that is lent
 abbrev file-slot : List (Slot 1)
@@ -358,10 +364,10 @@ module _ {M : Type 1} (𝓤 : URA M) (H : Heap 𝓤) (𝓜 : Model 𝓤 H) (𝓖
       (walked 𝓤 H A T hs c (WpFn 𝓤 H (𝓣 .C) (𝓣 .Λ) fn) sp tl
       (λ κs qs bounds a g are. via 𝓤 _ (fst∗ 𝓤 _ (c κs a .requires g)) (walk (𝓣 .C) (𝓣 .Λ) (fmOf 𝓤 H (W .laws) 𝓣) (cited 𝓤 H d 𝓜 𝓡 γ k callee calls known) κs qs bounds a g are))))
 
-  pub call-holds : {m : ℕ} (fs : List (Further m)) (Said : Means fs) → Defined (calling fs k) → Known (Callee 𝓤 H A (theirs-all fs) S.the-row (of-told fs Said)) → Meets 𝓤 H A (lent fs .signature) (𝓡 .run (γ own)) (closing 𝓤 H A (lent fs) (lent-says 𝓤 fs Said))
+  pub call-holds : {m : ℕ} (fs : List (Further m)) (Said : Means fs) → Defined (calling fs k) → Known (Callee 𝓤 H A (theirs-all fs) S.the-row (of-change fs Said)) → Meets 𝓤 H A (lent fs .signature) (𝓡 .run (γ own)) (closing 𝓤 H A (lent fs) (lent-says 𝓤 fs Said))
   call-holds {m} fs Said defined known =
       holds (lent fs) (stayed fs) (goes-ref 𝓤 H A W (suc m) 0 tt (plain (λ κs. Rec.the-row)), all-go 𝓤 H A W fs) (lent-says 𝓤 fs Said) (λ κs. (ptr-vals, spells κs fs)) (λ κs. (mut-tells (named 0) (κs .0) Rec.the-row, all-tell κs fs))
-      (calling fs k) defined (Callee 𝓤 H A (theirs-all fs) S.the-row (of-told fs Said)) known (λ C Λ fm met κs qs _ a _ are. walk 𝓤 H A W fs Said κs qs a C Λ fm k met (are .1))
+      (calling fs k) defined (Callee 𝓤 H A (theirs-all fs) S.the-row (of-change fs Said)) known (λ C Λ fm met κs qs _ a _ are. walk 𝓤 H A W fs Said κs qs a C Λ fm k met (are .1))
 
   pub start-holds : Defined (starting k) → Known (Callee 𝓤 H A file-slot F.the-row loads) → Meets 𝓤 H A start.signature (𝓡 .run (γ own)) (start.spec 𝓤 H A (𝓜 .mem) (𝓡 .run))
   start-holds defined known =

@@ -35,9 +35,11 @@ pub extern "C" fn rbu_enter(area: &mut Area, train: u16, route: u16, speed: u16)
     ensures { λ r. ⌜ Answered (now (area .entry)) (Enter train route speed) r (now (area .exit)) ⌝ }
 {
     let before = *area;
-    let told = kept::enter(before, train, route, speed);
-    *area = told.area;
-    told.number
+    let change = kept::enter(before, train, route, speed);
+    area.allocations = change.allocations;
+    area.trains = change.trains;
+    area.due = change.due;
+    change.number
 }
 
 #[no_mangle]
@@ -45,9 +47,11 @@ pub extern "C" fn rbu_leave(area: &mut Area, train: u16) -> u8
     ensures { λ r. ⌜ Answered (now (area .entry)) (Leave train) r (now (area .exit)) ⌝ }
 {
     let before = *area;
-    let told = kept::leave(before, train);
-    *area = told.area;
-    told.number
+    let change = kept::leave(before, train);
+    area.allocations = change.allocations;
+    area.trains = change.trains;
+    area.due = change.due;
+    change.number
 }
 
 #[no_mangle]
@@ -55,9 +59,11 @@ pub extern "C" fn rbu_speed(area: &mut Area, wishes: &[u16]) -> u8
     ensures { λ r. ⌜ Answered (now (area .entry)) (Speed (now (wishes .entry))) r (now (area .exit)) ⌝ }
 {
     let before = *area;
-    let told = kept::speed(before, wishes);
-    *area = told.area;
-    told.number
+    let change = kept::speed(before, wishes);
+    area.allocations = change.allocations;
+    area.trains = change.trains;
+    area.due = change.due;
+    change.number
 }
 
 #[no_mangle]
@@ -65,9 +71,11 @@ pub extern "C" fn rbu_request(area: &mut Area) -> u8
     ensures { λ r. ⌜ Answered (now (area .entry)) Request r (now (area .exit)) ⌝ }
 {
     let before = *area;
-    let told = kept::request(before);
-    *area = told.area;
-    told.number
+    let change = kept::request(before);
+    area.allocations = change.allocations;
+    area.trains = change.trains;
+    area.due = change.due;
+    change.number
 }
 
 #[no_mangle]
@@ -75,9 +83,11 @@ pub extern "C" fn rbu_grant(area: &mut Area) -> u8
     ensures { λ r. ⌜ Answered (now (area .entry)) Grant r (now (area .exit)) ⌝ }
 {
     let before = *area;
-    let told = kept::grant(before);
-    *area = told.area;
-    told.number
+    let change = kept::grant(before);
+    area.allocations = change.allocations;
+    area.trains = change.trains;
+    area.due = change.due;
+    change.number
 }
 
 #[no_mangle]
@@ -85,9 +95,11 @@ pub extern "C" fn rbu_position(area: &mut Area) -> u8
     ensures { λ r. ⌜ Answered (now (area .entry)) Position r (now (area .exit)) ⌝ }
 {
     let before = *area;
-    let told = kept::position(before);
-    *area = told.area;
-    told.number
+    let change = kept::position(before);
+    area.allocations = change.allocations;
+    area.trains = change.trains;
+    area.due = change.due;
+    change.number
 }
 
 // The number of the answer to a report; its two numbers go to `allocated` and `free`.

@@ -16,7 +16,6 @@ use records::header_ok;
 use records::margin_ok;
 use records::row_ok;
 use tables::MOST_SEGMENTS;
-use tables::Tables;
 
 // ---- rule 6
 // The least of all segment records that breaks it in what the tables keep, 0 where none does.
@@ -140,26 +139,39 @@ pub fn first_breaking<'a>(
 }
 
 // ---- rules 4 to 10 together
-pub fn tables_meet(t: Tables) -> bool
-    ensures { λ r. ⌜ r ≡ meets t ⌝ }
+// The tables' arrays are lent, since to pass tables by value is to copy them.
+pub fn tables_meet<'a>(
+    segments: u8,
+    routes: u8,
+    gmax: u16,
+    braking: u16,
+    margin: u32,
+    lengths: &'a [u32; 62],
+    limits: &'a [u16; 62],
+    next: &'a [u8; 124],
+    previous: &'a [u8; 124],
+    flags: &'a [u8; 62],
+    routebytes: &'a [u8; 960],
+) -> bool
+    ensures { λ r. ⌜ r ≡ meets (record { segments = segments; routes = routes; gmax = gmax; braking = braking; margin = margin; lengths = now (lengths .entry); limits = now (limits .entry); next = now (next .entry); previous = now (previous .entry); flags = now (flags .entry); routebytes = now (routebytes .entry) }) ⌝ }
 {
-    if !header_ok(t.segments, t.routes, t.gmax, t.braking, t.margin) {
+    if !header_ok(segments, routes, gmax, braking, margin) {
         return false;
     }
-    let margin = margin_ok(t.gmax, t.braking, t.margin);
+    let enough = margin_ok(gmax, braking, margin);
     let segment = first_bad_segment(
-        &t.lengths,
-        &t.limits,
-        &t.next,
-        &t.previous,
-        &t.flags,
-        t.segments,
-        t.gmax,
-        t.margin,
+        lengths,
+        limits,
+        next,
+        previous,
+        flags,
+        segments,
+        gmax,
+        margin,
     );
-    let unjoined = first_breaking(7, &t.limits, &t.next, &t.previous, t.braking, t.segments);
-    let unordered = first_breaking(8, &t.limits, &t.next, &t.previous, t.braking, t.segments);
-    let dropping = first_breaking(9, &t.limits, &t.next, &t.previous, t.braking, t.segments);
-    let route = routes::first_bad_route(&t.next, &t.routebytes, t.segments, t.routes);
-    margin & (segment == 0) & (unjoined == 0) & (unordered == 0) & (dropping == 0) & (route == 0)
+    let unjoined = first_breaking(7, limits, next, previous, braking, segments);
+    let unordered = first_breaking(8, limits, next, previous, braking, segments);
+    let dropping = first_breaking(9, limits, next, previous, braking, segments);
+    let route = routes::first_bad_route(next, routebytes, segments, routes);
+    enough & (segment == 0) & (unjoined == 0) & (unordered == 0) & (dropping == 0) & (route == 0)
 }

@@ -12,7 +12,7 @@ use Rattle.separation.specs.Runs.{World, next, afterFrom}
 outcome-tables : (tests : List Test) (new a : Area) → new .tables ≡ a .tables → outcome tests new a .area .tables ≡ a .tables
 outcome-tables tests new a e = if-case (λ (x : Area). x .tables ≡ a .tables) (firstOf tests .holds) (λ _. refl) (λ _. e)
 
-called-tables : (a : Area) (c : Call) → called a c .area .tables ≡ a .tables
+pub called-tables : (a : Area) (c : Call) → called a c .area .tables ≡ a .tables
 unfolding called enterCall afterEnter leaveCall afterLeave speedCall afterSpeed requestCall afterRequest grantCall afterGrant positionCall afterPosition
 called-tables a (Enter t r v) = outcome-tables (enterTests a t r v) (afterEnter a t r v) a refl
 called-tables a (Leave t) = outcome-tables (leaveTests a t) (afterLeave a t) a refl

@@ -3,18 +3,13 @@
 use mathlib.Core.Path.{_≡_, sym, _∙_}
 use mathlib.Core.Bool.{false, not}
 use native.Mathlib.Omega.{arith}
-use mir.Syntax.{w8}
-use mir.Val.{Fits}
 use borrow.Author.Tests.{lt-ltb, le-ltb}
 use borrow.Author.Needs.{needs}
 use Rattle.lists.proofs.Refusals.{outside, inside}
 use Rattle.trains.specs.Train.{mostTrains, trainAt, isOn}
-use Rattle.trains.specs.EnterLeave.{noTrain, noRoute}
+use Rattle.trains.specs.EnterLeave.{noTrain}
 use Rattle.admission.proofs.enter_refusal.Statement.{statement}
 use Rattle.admission.proofs.enter_refusal.Tie as tie
-
-routes-fit : (s : tie.Start) → Fits w8 (s .args .t2 .routes)
-routes-fit s = search needs
 
 is-sound : (c : tie.Else1) → not (c .before .args .ok) ≡ false
 is-sound c = c .if1 .left
@@ -34,50 +29,42 @@ known c = read (c .before .before)
 is-off : (c : tie.Else3) → let a = start (known c) .args in isOn (trainAt (a .trains) (a .train)) ≡ false
 is-off c = rw (c .before .before .train-at .ensures) at (le-ltb _ _ (c .if3 .left))
 
-abbrev routing : tie.Else4 → tie.Else3
-routing c = c .before
-
-routed : (c : tie.Else4) → let a = start (known (routing c)) .args in noRoute (a .t2) (a .route) ≡ false
-routed c = let a = start (known (routing c)) .args in sym (outside (a .t2 .routes) (a .route)) ∙ c .if4 .left
-
-abbrev first : tie.After-first-segment-refusal → tie.After-segment-at
-first c = c .before .before .before .before .before
-
 returns : tie.Need-returns
-returns c = (rw (c .if1 .taken), λ z. absurd (omega arith))
+returns c T p q u v = (rw (c .if1 .taken), λ z. absurd (omega arith))
 
 returns-2 : tie.Need-returns-2
-returns-2 c =
+returns-2 c T p q u v =
     (rw (is-sound (c .before), sym (outside mostTrains (c .before .before .args .train)) ∙ c .if2 .taken), λ z. absurd (omega arith))
 
 cast-train-at : tie.Need-cast-train-at
 cast-train-at c = let h = inside mostTrains (start c .args .train) (c .if2 .left) in omega arith
 
 returns-3 : tie.Need-returns-3
-returns-3 c =
+returns-3 c T p q u v =
     let x = c .before .before in
     (rw (is-sound (read x .before), numbered (read x), rw (x .train-at .ensures) at (lt-ltb _ _ (c .if3 .taken))), λ z. absurd (omega arith))
 
 returns-4 : tie.Need-returns-4
-returns-4 c =
+returns-4 c T p q u v =
     let d = c .before in
     let a = start (known d) .args in
-    let none = sym (outside (a .t2 .routes) (a .route)) ∙ c .if4 .taken in
-    (rw (is-sound (known d .before), numbered (known d), is-off d, none), λ z. absurd (omega arith))
+    let none = sym (outside (a .routes) (a .route)) ∙ c .if4 .taken in
+    (rw (is-sound (known d .before), numbered (known d), is-off d, p, none), λ z. absurd (omega arith))
 
 cast-segment-at : tie.Need-cast-segment-at
 cast-segment-at c =
-    let d = c .before .before in
-    let s = start (known (routing d)) in
-    let h = inside (s .args .t2 .routes) (s .args .route) (d .if4 .left) in
-    omega (arith, routes-fit s)
+    let s = start (known (c .before)) in
+    let h = inside (s .args .routes) (s .args .route) (c .if4 .left) in
+    omega (arith, s .fits)
 
 returns-5 : tie.Need-returns-5
-returns-5 c =
-    let d = first c .before .before .before in
-    let e = known (routing d) in
-    let decided = rw (first c .segment-at .ensures) at (c .first-segment-refusal .ensures) in
-    (rw (is-sound (e .before), numbered e, is-off (routing d), routed d) decided, λ z. first c .segment-at .ensures)
+returns-5 c T p q u v =
+    let first = c .before .segment-at .ensures in
+    let d = c .before .before in
+    let e = known (d .before) in
+    let some = sym (outside (start e .args .routes) (start e .args .route)) ∙ d .if4 .left in
+    let decided = rw first at (c .first-segment-refusal .ensures) in
+    (rw (is-sound (e .before), numbered e, is-off (d .before), p, some, q, u, v) decided, λ z. rw q first)
 
 pub enter-refusal-spec : {M : Type 1} → statement M
 enter-refusal-spec =
@@ -88,7 +75,6 @@ enter-refusal-spec =
     cast-train-at
     (λ c κs. search needs)
     returns-3
-    (λ c. search needs)
     returns-4
     cast-segment-at
     (λ c κs. search needs)

@@ -3,10 +3,12 @@ use mathlib.Core.Path.{_≡_, sym, _∙_}
 use mathlib.Core.Bool.{true, false, not, _&&_}
 use native.Mathlib.Omega.{arith}
 use Prim.Native.Nat.{_<_}
+use denote.Ref.{now}
 use borrow.Author.Tests.{lt-ltb}
 use borrow.Author.Needs.{needs}
 use Rattle.lists.proofs.Cases.{test-fails, test-holds}
 use Rattle.lists.proofs.Refusals.{outside, inside}
+use Rattle.tables.specs.declared.Tables.{Tables}
 use Rattle.trains.specs.declared.Train.{Train}
 use Rattle.trains.specs.Train.{mostTrains, trainAt, isOn, ownOf}
 use Rattle.trains.specs.EnterLeave.{isExit, isLast, noTrain}
@@ -32,39 +34,37 @@ train c = trainAt (start c .args .trains) (start c .args .train)
 is-on : (c : tie.Else3) → isOn (train (known (c .before .before))) ≡ true
 is-on c = let on : 0 < c .before .before .train-at .result .route = omega (arith, c .if3 .left) in rw (c .before .before .train-at .ensures) at (lt-ltb _ _ on)
 
-abbrev tried : tie.After-at-exit → tie.Else3
-tried c = c .before .before .before .before
-
 exit-found :
-    (c : tie.After-at-exit) → let e = known (tried c .before .before) in let T = start e .args .t2 in
-    c .at-exit .result ≡ (isLast T (train e) && isExit T (ownOf T (train e)))
-exit-found c = rw (tried c .before .before .train-at .ensures) at (c .at-exit .ensures)
+    (c : tie.After-at-exit) (T : Tables) → let e = known (c .before .before .before) in
+    T .routebytes ≡ now (start e .args .routebytes) → T .flags ≡ now (start e .args .flags)
+    → c .at-exit .result ≡ (isLast T (train e) && isExit T (ownOf T (train e)))
+exit-found c T p q = rw (p, q, sym (c .before .before .before .train-at .ensures)) (c .at-exit .ensures)
 
 returns : tie.Need-returns
-returns c = rw (c .if1 .taken)
+returns c T p q = rw (c .if1 .taken)
 
 returns-2 : tie.Need-returns-2
-returns-2 c = rw (is-sound (c .before), sym (outside mostTrains (c .before .before .args .train)) ∙ c .if2 .taken)
+returns-2 c T p q = rw (is-sound (c .before), sym (outside mostTrains (c .before .before .args .train)) ∙ c .if2 .taken)
 
 cast-train-at : tie.Need-cast-train-at
 cast-train-at c = let h = inside mostTrains (start c .args .train) (c .if2 .left) in omega arith
 
 returns-3 : tie.Need-returns-3
-returns-3 c =
+returns-3 c T p q =
     let x = c .before .before in
     rw (is-sound (known x .before), numbered (known x), rw (x .train-at .ensures) at (c .if3 .taken))
 
 returns-4 : tie.Need-returns-4
-returns-4 c =
-    let d = tried (c .before) in
+returns-4 c T p q =
+    let d = c .before .before in
     let e = known (d .before .before) in
-    rw (is-sound (e .before), numbered e, is-on d, test-fails (exit-found (c .before)) (c .if4 .taken))
+    rw (is-sound (e .before), numbered e, is-on d, test-fails (exit-found (c .before) T p q) (c .if4 .taken))
 
 returns-5 : tie.Need-returns-5
-returns-5 c =
-    let d = tried (c .before) in
+returns-5 c T p q =
+    let d = c .before .before in
     let e = known (d .before .before) in
-    rw (is-sound (e .before), numbered e, is-on d, test-holds (exit-found (c .before)) (c .if4 .left))
+    rw (is-sound (e .before), numbered e, is-on d, test-holds (exit-found (c .before) T p q) (c .if4 .left))
 
 pub leave-refusal-spec : {M : Type 1} → statement M
 leave-refusal-spec =

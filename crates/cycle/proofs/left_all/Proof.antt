@@ -3,20 +3,21 @@ use Prim.Native.Nat.{ℕ, _-_}
 use mathlib.Core.Path.{refl}
 use native.Mathlib.Omega.{arith}
 use borrow.Author.Needs.{needs}
-use Rattle.lists.specs.Words.{if_then_else_}
+use Rattle.lists.specs.Words.{if_then_else_, at}
 use Rattle.lists.proofs.Numbered.{long-of}
 use Rattle.lists.proofs.Loops.{Made, make-begin, make-more, make-over}
 use Rattle.trains.specs.declared.Train.{Train}
-use Rattle.trains.specs.Train.{ownOf}
-use Rattle.trains.specs.Cycle.{movesOn}
+use Rattle.trains.specs.Train.{ownIn}
+use Rattle.trains.specs.Cycle.{movesIn}
 use Rattle.cycle.proofs.left_all.Statement.{statement}
 use Rattle.cycle.proofs.left_all.Tie as tie
 
 abbrev Inv-loop : tie.InvT-loop
-Inv-loop tables trains new₀ i₀ new i = Made 24 (λ (t : ℕ) (x : Train). if movesOn tables x then ownOf tables x else 0) trains new₀ i new
+Inv-loop routebytes lengths trains new₀ i₀ new i =
+    Made 24 (λ (t : ℕ) (x : Train). if movesIn (at lengths (ownIn routebytes x)) x then ownIn routebytes x else 0) trains new₀ i new
 
 abbrev μ-loop : tie.MeasureT-loop
-μ-loop tables trains new₀ i₀ new i = 24 - i
+μ-loop routebytes lengths trains new₀ i₀ new i = 24 - i
 
 loop-holds : tie.Need-loop-holds Inv-loop μ-loop
 loop-holds c = make-begin (search long-of) refl
@@ -41,7 +42,7 @@ loop-less c = omega arith
 
 loop-again : tie.Need-loop-again Inv-loop μ-loop
 loop-again c =
-    make-more (c .before .before .before .before .before .before .loop .inv) _ (c .before .before .before .before .before .loop-test .taken)
+    make-more (c .before .before .before .loop .inv) _ (c .before .before .loop-test .taken)
     (c .left-by .ensures)
 
 returns : tie.Need-returns Inv-loop μ-loop

@@ -2,18 +2,20 @@
 use Prim.Native.Nat.{ℕ, _+_, _-_}
 use native.Mathlib.Omega.{arith}
 use borrow.Author.Needs.{needs}
+use Rattle.lists.specs.Words.{at}
 use Rattle.lists.proofs.Numbered.{nth-index, long-of}
-use Rattle.trains.specs.Train.{off}
-use Rattle.trains.specs.Cycle.{moved}
+use Rattle.trains.specs.declared.Train.{Train}
+use Rattle.trains.specs.Train.{off, ownIn}
+use Rattle.trains.specs.Cycle.{movedIn}
 use Rattle.lists.proofs.Loops.{Made, make-begin, make-more, make-over}
 use Rattle.cycle.proofs.moved_all.Statement.{statement}
 use Rattle.cycle.proofs.moved_all.Tie as tie
 
 abbrev Inv-loop : tie.InvT-loop
-Inv-loop tables trains new₀ i₀ new i = Made 24 (λ (t : ℕ). moved tables) trains trains i new
+Inv-loop routebytes lengths trains new₀ i₀ new i = Made 24 (λ (t : ℕ) (x : Train). movedIn (at lengths (ownIn routebytes x)) x) trains trains i new
 
 abbrev μ-loop : tie.MeasureT-loop
-μ-loop tables trains new₀ i₀ new i = 24 - i
+μ-loop routebytes lengths trains new₀ i₀ new i = 24 - i
 
 loop-holds : tie.Need-loop-holds Inv-loop μ-loop
 loop-holds c = make-begin (search long-of) (search long-of)
@@ -35,7 +37,7 @@ entry-u32-requires c κs = search needs
 
 moved-train-requires : tie.Need-moved-train-requires Inv-loop μ-loop
 moved-train-requires c κs =
-    let l = c .before .before .before .before .before .before .before .before .before in
+    let l = c .before .before .before .before .before in
     rw (nth-index off _ (l .loop .i)) at (l .before .pre (l .loop .i + 1))
 
 mul-new : tie.Need-mul-new Inv-loop μ-loop
@@ -52,8 +54,8 @@ loop-less c = omega arith
 
 loop-again : tie.Need-loop-again Inv-loop μ-loop
 loop-again c =
-    let own = c .before .before .before .before .before in
-    let test = own .before .before .before .before in
+    let own = c .before .before .before in
+    let test = own .before .before in
     make-more (test .before .loop .inv) _ (test .loop-test .taken)
     (rw (rw (own .own-of .ensures) at (c .before .entry-u32 .ensures)) at (c .moved-train .ensures))
 

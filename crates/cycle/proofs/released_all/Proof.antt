@@ -11,7 +11,7 @@ use Rattle.lists.proofs.Cases.{by-test}
 use Rattle.lists.proofs.Numbered.{nth-each, each-same}
 use Rattle.tables.specs.declared.Tables.{Tables}
 use Rattle.trains.specs.declared.Train.{Train}
-use Rattle.trains.specs.Train.{off, trainAt, ownOf}
+use Rattle.trains.specs.Train.{off, trainAt, ownIn, ownOf}
 use Rattle.trains.specs.Cycle.{movesIn, movesOn, released, freed}
 use Rattle.trains.proofs.Segments.{occupied-test}
 use Rattle.cycle.proofs.released_all.Statement.{statement}
@@ -32,11 +32,12 @@ left-released T x s some = by-test (movesOn T x) (λ e. rw (e, occupied-test T x
 
 -- the train that holds a segment frees it where the list of what the trains free has it
 release-left :
-    (T : Tables) (trains : List Train) (A lefts : List ℕ) → lefts ≡ each (λ (t : ℕ). left T) trains
+    (T : Tables) (trains : List Train) (routebytes lengths A lefts : List ℕ) → T .routebytes ≡ routebytes → T .lengths ≡ lengths
+    → lefts ≡ each (λ (t : ℕ) (x : Train). if movesIn (at lengths (ownIn routebytes x)) x then ownIn routebytes x else 0) trains
     → each (λ (s h : ℕ). if eqb (at lefts h) s then 0 else h) A ≡ each (freed T trains) A
 unfolding freed
-release-left T trains A lefts e =
-    rw e (each-same _ _ A (λ s h low high. rw (left-at T trains h, left-released T (trainAt trains h) s low)))
+release-left T trains routebytes lengths A lefts sameroutes samelengths e =
+    rw (e, ← sameroutes, ← samelengths) (each-same _ _ A (λ s h low high. rw (left-at T trains h, left-released T (trainAt trains h) s low)))
 
 left-all-requires : tie.Need-left-all-requires
 left-all-requires c κs = search needs
@@ -45,7 +46,7 @@ released-by-requires : tie.Need-released-by-requires
 released-by-requires c κs = search needs
 
 returns : tie.Need-returns
-returns c = c .released-by .ensures ∙ release-left _ _ _ _ (c .before .left-all .ensures)
+returns c T sameroutes samelengths = c .released-by .ensures ∙ release-left T _ _ _ _ _ sameroutes samelengths (c .before .left-all .ensures)
 
 pub released-all-spec : {M : Type 1} → statement M
 released-all-spec = tie.close (tie.spec left-all-requires released-by-requires returns)

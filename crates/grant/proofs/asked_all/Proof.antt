@@ -2,18 +2,21 @@
 use Prim.Native.Nat.{ℕ, _-_}
 use mathlib.Core.Path.{refl}
 use native.Mathlib.Omega.{arith}
+use lib.Dec.{eqb}
 use borrow.Author.Needs.{needs}
+use Rattle.lists.specs.Words.{if_then_else_}
 use Rattle.lists.proofs.Numbered.{long-of}
-use Rattle.trains.specs.Grant.{asked}
 use Rattle.lists.proofs.Loops.{Made, make-begin, make-more, make-over}
+use Rattle.trains.specs.declared.Train.{Train}
+use Rattle.trains.specs.Train.{wantedIn}
 use Rattle.grant.proofs.asked_all.Statement.{statement}
 use Rattle.grant.proofs.asked_all.Tie as tie
 
 abbrev Inv-loop : tie.InvT-loop
-Inv-loop tables trains new₀ i₀ new i = Made 24 (λ (t : ℕ). asked tables) trains new₀ i new
+Inv-loop routebytes trains new₀ i₀ new i = Made 24 (λ (t : ℕ) (x : Train). if eqb (x .asks) 1 then wantedIn routebytes x else 0) trains new₀ i new
 
 abbrev μ-loop : tie.MeasureT-loop
-μ-loop tables trains new₀ i₀ new i = 24 - i
+μ-loop routebytes trains new₀ i₀ new i = 24 - i
 
 loop-holds : tie.Need-loop-holds Inv-loop μ-loop
 loop-holds c = make-begin (search long-of) refl
@@ -37,9 +40,8 @@ loop-less : tie.Need-loop-less Inv-loop μ-loop
 loop-less c = omega arith
 
 loop-again : tie.Need-loop-again Inv-loop μ-loop
-unfolding asked
 loop-again c =
-    make-more (c .before .before .before .before .before .loop .inv) _ (c .before .before .before .before .loop-test .taken)
+    make-more (c .before .before .before .loop .inv) _ (c .before .before .loop-test .taken)
     (c .asked-by .ensures)
 
 returns : tie.Need-returns Inv-loop μ-loop

@@ -5,17 +5,9 @@ use Rattle.kept.proofs.Laws.{answered}
 use Rattle.kept.proofs.speed.Statement.{statement}
 use Rattle.kept.proofs.speed.Tie as tie
 
-speed-requires : tie.Need-speed-requires
-speed-requires c κs = search needs
-
-tell-requires : tie.Need-tell-requires
-tell-requires c κs = search needs
-
 returns : tie.Need-returns
 unfolding called
-returns c =
-    let i = c .before .before .before .args in
-    answered (i .area) (Speed (now (i .wishes))) _ (c .before .speed .ensures) _ (c .tell .ensures)
+returns c = let i = c .before .before .args in answered (i .area) (Speed (now (i .wishes))) _ (c .speed-change .ensures)
 
 pub speed-spec : {M : Type 1} → statement M
-speed-spec = tie.close (tie.spec speed-requires tell-requires returns)
+speed-spec = tie.close (tie.spec (λ c κs. search needs) returns)
