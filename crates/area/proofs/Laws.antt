@@ -53,8 +53,8 @@ outcome-by tests new old plain same e =
     rw (e, first-placeless tests plain, number-of-answer (firstOf tests .number) 0)
     (by-test (firstOf tests .holds) (λ h. rw h) (λ h. rw (h, ← same)))
 
--- what an examination finds, by its three parts
+-- what an examination finds, by its two parts
 pub found-by :
     (a : Area) {ok : Bool} {spots : List Spot} → ok ≡ sound a → spots ≡ spotsOf (a .tables) (a .allocations) (a .trains)
-    → _≡_ {A = Examined} (record { ok = ok; spots = spots; trains = a .trains }) (examinedOf a)
+    → _≡_ {A = Examined} (record { ok = ok; spots = spots }) (examinedOf a)
 found-by a e f = rw (e, f)

@@ -1,10 +1,16 @@
-// An area by value, and its calls: each takes the record and hands it back in an outcome. A refusal hands it back as it came. What a
-// call comes to is worked out without the tables, of which it lends the arrays: a record is some 2 KB, and each copy of it is stack.
+// An area by value, and its calls: each takes the record and hands it back in an outcome. A refusal hands it back as it came. A call
+// first has the record examined and then works out what it changes of it. Both are lent the tables' arrays, since a record is some 2 KB
+// and each copy of it is stack.
+ghost use Prim.Native.Nat.{ℕ};
 ghost use mathlib.Core.Path.{_≡_};
+ghost use mathlib.Core.Bool.{true};
+ghost use Rattle.trains.specs.Train.{trainAt};
+ghost use Rattle.steps.specs.Room.{Room};
 ghost use Rattle.answers.specs.Answers.{answerOf};
 ghost use Rattle.area.specs.Sound.{sound};
 ghost use Rattle.area.specs.Calls.{changeOf, enterCall, leaveCall, speedCall, requestCall, grantCall, positionCall, reported};
-ghost use Rattle.area.specs.Examined.{examinedOf};
+ghost use Rattle.area.specs.declared.Area.{Area};
+ghost use Rattle.area.specs.Examined.{examinedOf, Parts};
 use answers::Answer;
 use tables::Tables;
 use trains::Spot;
@@ -40,16 +46,14 @@ pub struct Report {
     pub free: u8,
 }
 
-// Whether the record is sound, where its trains stand, which speed and request read again, and the trains.
-struct Examined {
-    ok: bool,
-    spots: [Spot; 24],
-    trains: [Train; 24],
+// Whether the record is sound, and where its trains stand, which speed and request read again.
+pub struct Examined {
+    pub ok: bool,
+    pub spots: [Spot; 24],
 }
 
-// Each condition of a sound record in turn. The tables' arrays are lent, and the trains handed back, so that a call has the record on
-// its stack once.
-fn examine<'a>(
+// Each condition of a sound record in turn.
+pub fn examine<'a>(
     segments: u8,
     routes: u8,
     gmax: u16,
@@ -81,29 +85,206 @@ fn examine<'a>(
         flags,
         routebytes,
     ) {
-        return Examined {
-            ok: false,
-            spots,
-            trains,
-        };
+        return Examined { ok: false, spots };
     }
     if 3 < due {
-        return Examined {
-            ok: false,
-            spots,
-            trains,
-        };
+        return Examined { ok: false, spots };
     }
     if !soundness::trains_sound(routes, braking, margin, due, spots, trains) {
-        return Examined {
-            ok: false,
-            spots,
-            trains,
-        };
+        return Examined { ok: false, spots };
     }
     let held = *allocations;
     let ok = soundness::allocations_sound(routebytes, segments, held, trains);
-    Examined { ok, spots, trains }
+    Examined { ok, spots }
+}
+
+// ---- what each call changes of a record that has been examined
+pub fn enter_found<'a>(
+    found: Examined,
+    routes: u8,
+    routebytes: &'a [u8; 960],
+    flags: &'a [u8; 62],
+    limits: &'a [u16; 62],
+    train: u16,
+    route: u16,
+    speed: u16,
+    allocations: [u8; 62],
+    trains: [Train; 24],
+    due: u8,
+) -> Change
+    ensures { λ r. ⌜ ((a : Area) → Parts a found allocations trains due → routes ≡ a .tables .routes → now (routebytes .entry) ≡ a .tables .routebytes → now (flags .entry) ≡ a .tables .flags → now (limits .entry) ≡ a .tables .limits → r ≡ changeOf (enterCall a train route speed)) ⌝ }
+{
+    let entry = admission::enter_refusal(
+        found.ok,
+        routes,
+        routebytes,
+        flags,
+        limits,
+        &allocations,
+        trains,
+        train,
+        route,
+        speed,
+    );
+    let number = entry.number;
+    if number != 0 {
+        return Change {
+            number,
+            allocations,
+            trains,
+            due,
+        };
+    }
+    let t = train as u8;
+    let r = route as u8;
+    let allocations_after = enter_leave::taken_all(allocations, entry.first, t);
+    let trains_after = enter_leave::with_train(trains, t, standing::entered_train(r, speed));
+    Change {
+        number: 0,
+        allocations: allocations_after,
+        trains: trains_after,
+        due,
+    }
+}
+
+pub fn leave_found<'a>(
+    found: Examined,
+    routebytes: &'a [u8; 960],
+    flags: &'a [u8; 62],
+    train: u16,
+    allocations: [u8; 62],
+    trains: [Train; 24],
+    due: u8,
+) -> Change
+    ensures { λ r. ⌜ ((a : Area) → Parts a found allocations trains due → now (routebytes .entry) ≡ a .tables .routebytes → now (flags .entry) ≡ a .tables .flags → r ≡ changeOf (leaveCall a train)) ⌝ }
+{
+    let number = admission::leave_refusal(found.ok, routebytes, flags, trains, train);
+    if number != 0 {
+        return Change {
+            number,
+            allocations,
+            trains,
+            due,
+        };
+    }
+    let t = train as u8;
+    let allocations_after = enter_leave::freed_all(allocations, t);
+    let trains_after = enter_leave::with_train(trains, t, standing::train_off());
+    Change {
+        number: 0,
+        allocations: allocations_after,
+        trains: trains_after,
+        due,
+    }
+}
+
+pub fn speed_found(
+    found: Examined,
+    braking: u16,
+    wishes: &[u16],
+    allocations: [u8; 62],
+    trains: [Train; 24],
+    due: u8,
+) -> Change
+    ensures { λ r. ⌜ ((a : Area) → Parts a found allocations trains due → braking ≡ a .tables .braking → r ≡ changeOf (speedCall a (now (wishes .entry)))) ⌝ }
+{
+    let number = steps::speed_refusal(found.ok, due, wishes.len());
+    if number != 0 {
+        return Change {
+            number,
+            allocations,
+            trains,
+            due,
+        };
+    }
+    let spots = found.spots;
+    let trains_after = cycle::sped_all(braking, wishes, spots, trains);
+    Change {
+        number: 0,
+        allocations,
+        trains: trains_after,
+        due: 1,
+    }
+}
+
+pub fn request_found(found: Examined, allocations: [u8; 62], trains: [Train; 24], due: u8) -> Change
+    ensures { λ r. ⌜ ((a : Area) → Parts a found allocations trains due → r ≡ changeOf (requestCall a)) ⌝ }
+{
+    let number = steps::step_refusal(found.ok, due, 1);
+    if number != 0 {
+        return Change {
+            number,
+            allocations,
+            trains,
+            due,
+        };
+    }
+    let spots = found.spots;
+    let trains_after = cycle::requested_all(spots, trains);
+    Change {
+        number: 0,
+        allocations,
+        trains: trains_after,
+        due: 2,
+    }
+}
+
+pub fn grant_found(
+    found: Examined,
+    routebytes: &[u8; 960],
+    allocations: [u8; 62],
+    trains: [Train; 24],
+    due: u8,
+) -> Change
+    ensures { λ r. ⌜ ((a : Area) → Parts a found allocations trains due → now (routebytes .entry) ≡ a .tables .routebytes → r ≡ changeOf (grantCall a)) ⌝ }
+{
+    let number = steps::step_refusal(found.ok, due, 2);
+    if number != 0 {
+        return Change {
+            number,
+            allocations,
+            trains,
+            due,
+        };
+    }
+    let allocations_after = grant::granted_all(routebytes, trains, allocations);
+    let trains_after = grant::calmed_all(trains);
+    Change {
+        number: 0,
+        allocations: allocations_after,
+        trains: trains_after,
+        due: 3,
+    }
+}
+
+pub fn position_found<'a>(
+    found: Examined,
+    routebytes: &'a [u8; 960],
+    lengths: &'a [u32; 62],
+    allocations: [u8; 62],
+    trains: [Train; 24],
+    due: u8,
+) -> Change
+    requires { ⌜ (found .ok ≡ true → (t : ℕ) → Room (trainAt trains t)) ⌝ }
+    ensures { λ r. ⌜ ((a : Area) → Parts a found allocations trains due → now (routebytes .entry) ≡ a .tables .routebytes → now (lengths .entry) ≡ a .tables .lengths → r ≡ changeOf (positionCall a)) ⌝ }
+{
+    let number = steps::step_refusal(found.ok, due, 3);
+    if number != 0 {
+        return Change {
+            number,
+            allocations,
+            trains,
+            due,
+        };
+    }
+    let allocations_after = cycle::released_all(routebytes, lengths, trains, allocations);
+    let trains_after = cycle::moved_all(routebytes, lengths, trains);
+    Change {
+        number: 0,
+        allocations: allocations_after,
+        trains: trains_after,
+        due: 0,
+    }
 }
 
 // The outcome of a change: the tables stay.
@@ -129,7 +310,7 @@ impl Area {
     pub fn sound(self) -> bool
         ensures { λ r. ⌜ r ≡ sound self ⌝ }
     {
-        let given = self.trains;
+        let trains = self.trains;
         let due = self.due;
         let found = examine(
             self.tables.segments,
@@ -144,296 +325,47 @@ impl Area {
             &self.tables.flags,
             &self.tables.routebytes,
             &self.allocations,
-            given,
+            trains,
             due,
         );
         found.ok
     }
 
-    // ---- what each call changes
-    pub fn enter_change(self, train: u16, route: u16, speed: u16) -> Change
-        ensures { λ r. ⌜ r ≡ changeOf (enterCall self train route speed) ⌝ }
-    {
-        let given = self.trains;
-        let due = self.due;
-        let found = examine(
-            self.tables.segments,
-            self.tables.routes,
-            self.tables.gmax,
-            self.tables.braking,
-            self.tables.margin,
-            &self.tables.lengths,
-            &self.tables.limits,
-            &self.tables.next,
-            &self.tables.previous,
-            &self.tables.flags,
-            &self.tables.routebytes,
-            &self.allocations,
-            given,
-            due,
-        );
-        let before = found.trains;
-        let held = self.allocations;
-        let entry = admission::enter_refusal(
-            found.ok,
-            self.tables.routes,
-            &self.tables.routebytes,
-            &self.tables.flags,
-            &self.tables.limits,
-            &self.allocations,
-            before,
-            train,
-            route,
-            speed,
-        );
-        let number = entry.number;
-        if number != 0 {
-            return Change {
-                number,
-                allocations: held,
-                trains: before,
-                due,
-            };
-        }
-        let t = train as u8;
-        let r = route as u8;
-        let allocations = enter_leave::taken_all(held, entry.first, t);
-        let trains = enter_leave::with_train(before, t, standing::entered_train(r, speed));
-        Change {
-            number: 0,
-            allocations,
-            trains,
-            due,
-        }
-    }
-
-    pub fn leave_change(self, train: u16) -> Change
-        ensures { λ r. ⌜ r ≡ changeOf (leaveCall self train) ⌝ }
-    {
-        let given = self.trains;
-        let due = self.due;
-        let found = examine(
-            self.tables.segments,
-            self.tables.routes,
-            self.tables.gmax,
-            self.tables.braking,
-            self.tables.margin,
-            &self.tables.lengths,
-            &self.tables.limits,
-            &self.tables.next,
-            &self.tables.previous,
-            &self.tables.flags,
-            &self.tables.routebytes,
-            &self.allocations,
-            given,
-            due,
-        );
-        let before = found.trains;
-        let held = self.allocations;
-        let number = admission::leave_refusal(
-            found.ok,
-            &self.tables.routebytes,
-            &self.tables.flags,
-            before,
-            train,
-        );
-        if number != 0 {
-            return Change {
-                number,
-                allocations: held,
-                trains: before,
-                due,
-            };
-        }
-        let t = train as u8;
-        let allocations = enter_leave::freed_all(held, t);
-        let trains = enter_leave::with_train(before, t, standing::train_off());
-        Change {
-            number: 0,
-            allocations,
-            trains,
-            due,
-        }
-    }
-
-    pub fn speed_change(self, wishes: &[u16]) -> Change
-        ensures { λ r. ⌜ r ≡ changeOf (speedCall self (now (wishes .entry))) ⌝ }
-    {
-        let given = self.trains;
-        let due = self.due;
-        let found = examine(
-            self.tables.segments,
-            self.tables.routes,
-            self.tables.gmax,
-            self.tables.braking,
-            self.tables.margin,
-            &self.tables.lengths,
-            &self.tables.limits,
-            &self.tables.next,
-            &self.tables.previous,
-            &self.tables.flags,
-            &self.tables.routebytes,
-            &self.allocations,
-            given,
-            due,
-        );
-        let before = found.trains;
-        let held = self.allocations;
-        let number = steps::speed_refusal(found.ok, due, wishes.len());
-        if number != 0 {
-            return Change {
-                number,
-                allocations: held,
-                trains: before,
-                due,
-            };
-        }
-        let spots = found.spots;
-        let trains = cycle::sped_all(self.tables.braking, wishes, spots, before);
-        Change {
-            number: 0,
-            allocations: held,
-            trains,
-            due: 1,
-        }
-    }
-
-    pub fn request_change(self) -> Change
-        ensures { λ r. ⌜ r ≡ changeOf (requestCall self) ⌝ }
-    {
-        let given = self.trains;
-        let due = self.due;
-        let found = examine(
-            self.tables.segments,
-            self.tables.routes,
-            self.tables.gmax,
-            self.tables.braking,
-            self.tables.margin,
-            &self.tables.lengths,
-            &self.tables.limits,
-            &self.tables.next,
-            &self.tables.previous,
-            &self.tables.flags,
-            &self.tables.routebytes,
-            &self.allocations,
-            given,
-            due,
-        );
-        let before = found.trains;
-        let held = self.allocations;
-        let number = steps::step_refusal(found.ok, due, 1);
-        if number != 0 {
-            return Change {
-                number,
-                allocations: held,
-                trains: before,
-                due,
-            };
-        }
-        let spots = found.spots;
-        let trains = cycle::requested_all(spots, before);
-        Change {
-            number: 0,
-            allocations: held,
-            trains,
-            due: 2,
-        }
-    }
-
-    pub fn grant_change(self) -> Change
-        ensures { λ r. ⌜ r ≡ changeOf (grantCall self) ⌝ }
-    {
-        let given = self.trains;
-        let due = self.due;
-        let found = examine(
-            self.tables.segments,
-            self.tables.routes,
-            self.tables.gmax,
-            self.tables.braking,
-            self.tables.margin,
-            &self.tables.lengths,
-            &self.tables.limits,
-            &self.tables.next,
-            &self.tables.previous,
-            &self.tables.flags,
-            &self.tables.routebytes,
-            &self.allocations,
-            given,
-            due,
-        );
-        let before = found.trains;
-        let held = self.allocations;
-        let number = steps::step_refusal(found.ok, due, 2);
-        if number != 0 {
-            return Change {
-                number,
-                allocations: held,
-                trains: before,
-                due,
-            };
-        }
-        let allocations = grant::granted_all(&self.tables.routebytes, before, held);
-        let trains = grant::calmed_all(before);
-        Change {
-            number: 0,
-            allocations,
-            trains,
-            due: 3,
-        }
-    }
-
-    pub fn position_change(self) -> Change
-        ensures { λ r. ⌜ r ≡ changeOf (positionCall self) ⌝ }
-    {
-        let given = self.trains;
-        let due = self.due;
-        let found = examine(
-            self.tables.segments,
-            self.tables.routes,
-            self.tables.gmax,
-            self.tables.braking,
-            self.tables.margin,
-            &self.tables.lengths,
-            &self.tables.limits,
-            &self.tables.next,
-            &self.tables.previous,
-            &self.tables.flags,
-            &self.tables.routebytes,
-            &self.allocations,
-            given,
-            due,
-        );
-        let before = found.trains;
-        let held = self.allocations;
-        let number = steps::step_refusal(found.ok, due, 3);
-        if number != 0 {
-            return Change {
-                number,
-                allocations: held,
-                trains: before,
-                due,
-            };
-        }
-        let allocations = cycle::released_all(
-            &self.tables.routebytes,
-            &self.tables.lengths,
-            before,
-            held,
-        );
-        let trains = cycle::moved_all(&self.tables.routebytes, &self.tables.lengths, before);
-        Change {
-            number: 0,
-            allocations,
-            trains,
-            due: 0,
-        }
-    }
-
-    // ---- the calls
     pub fn enter(self, train: u16, route: u16, speed: u16) -> Outcome
         ensures { λ r. ⌜ r ≡ enterCall self train route speed ⌝ }
     {
-        let change = self.enter_change(train, route, speed);
+        let allocations = self.allocations;
+        let trains = self.trains;
+        let due = self.due;
+        let found = examine(
+            self.tables.segments,
+            self.tables.routes,
+            self.tables.gmax,
+            self.tables.braking,
+            self.tables.margin,
+            &self.tables.lengths,
+            &self.tables.limits,
+            &self.tables.next,
+            &self.tables.previous,
+            &self.tables.flags,
+            &self.tables.routebytes,
+            &self.allocations,
+            trains,
+            due,
+        );
+        let change = enter_found(
+            found,
+            self.tables.routes,
+            &self.tables.routebytes,
+            &self.tables.flags,
+            &self.tables.limits,
+            train,
+            route,
+            speed,
+            allocations,
+            trains,
+            due,
+        );
         let tables = self.tables;
         outcome_of(tables, change)
     }
@@ -441,7 +373,34 @@ impl Area {
     pub fn leave(self, train: u16) -> Outcome
         ensures { λ r. ⌜ r ≡ leaveCall self train ⌝ }
     {
-        let change = self.leave_change(train);
+        let allocations = self.allocations;
+        let trains = self.trains;
+        let due = self.due;
+        let found = examine(
+            self.tables.segments,
+            self.tables.routes,
+            self.tables.gmax,
+            self.tables.braking,
+            self.tables.margin,
+            &self.tables.lengths,
+            &self.tables.limits,
+            &self.tables.next,
+            &self.tables.previous,
+            &self.tables.flags,
+            &self.tables.routebytes,
+            &self.allocations,
+            trains,
+            due,
+        );
+        let change = leave_found(
+            found,
+            &self.tables.routebytes,
+            &self.tables.flags,
+            train,
+            allocations,
+            trains,
+            due,
+        );
         let tables = self.tables;
         outcome_of(tables, change)
     }
@@ -449,7 +408,26 @@ impl Area {
     pub fn speed(self, wishes: &[u16]) -> Outcome
         ensures { λ r. ⌜ r ≡ speedCall self (now (wishes .entry)) ⌝ }
     {
-        let change = self.speed_change(wishes);
+        let allocations = self.allocations;
+        let trains = self.trains;
+        let due = self.due;
+        let found = examine(
+            self.tables.segments,
+            self.tables.routes,
+            self.tables.gmax,
+            self.tables.braking,
+            self.tables.margin,
+            &self.tables.lengths,
+            &self.tables.limits,
+            &self.tables.next,
+            &self.tables.previous,
+            &self.tables.flags,
+            &self.tables.routebytes,
+            &self.allocations,
+            trains,
+            due,
+        );
+        let change = speed_found(found, self.tables.braking, wishes, allocations, trains, due);
         let tables = self.tables;
         outcome_of(tables, change)
     }
@@ -457,7 +435,26 @@ impl Area {
     pub fn request(self) -> Outcome
         ensures { λ r. ⌜ r ≡ requestCall self ⌝ }
     {
-        let change = self.request_change();
+        let allocations = self.allocations;
+        let trains = self.trains;
+        let due = self.due;
+        let found = examine(
+            self.tables.segments,
+            self.tables.routes,
+            self.tables.gmax,
+            self.tables.braking,
+            self.tables.margin,
+            &self.tables.lengths,
+            &self.tables.limits,
+            &self.tables.next,
+            &self.tables.previous,
+            &self.tables.flags,
+            &self.tables.routebytes,
+            &self.allocations,
+            trains,
+            due,
+        );
+        let change = request_found(found, allocations, trains, due);
         let tables = self.tables;
         outcome_of(tables, change)
     }
@@ -465,7 +462,26 @@ impl Area {
     pub fn grant(self) -> Outcome
         ensures { λ r. ⌜ r ≡ grantCall self ⌝ }
     {
-        let change = self.grant_change();
+        let allocations = self.allocations;
+        let trains = self.trains;
+        let due = self.due;
+        let found = examine(
+            self.tables.segments,
+            self.tables.routes,
+            self.tables.gmax,
+            self.tables.braking,
+            self.tables.margin,
+            &self.tables.lengths,
+            &self.tables.limits,
+            &self.tables.next,
+            &self.tables.previous,
+            &self.tables.flags,
+            &self.tables.routebytes,
+            &self.allocations,
+            trains,
+            due,
+        );
+        let change = grant_found(found, &self.tables.routebytes, allocations, trains, due);
         let tables = self.tables;
         outcome_of(tables, change)
     }
@@ -473,7 +489,33 @@ impl Area {
     pub fn position(self) -> Outcome
         ensures { λ r. ⌜ r ≡ positionCall self ⌝ }
     {
-        let change = self.position_change();
+        let allocations = self.allocations;
+        let trains = self.trains;
+        let due = self.due;
+        let found = examine(
+            self.tables.segments,
+            self.tables.routes,
+            self.tables.gmax,
+            self.tables.braking,
+            self.tables.margin,
+            &self.tables.lengths,
+            &self.tables.limits,
+            &self.tables.next,
+            &self.tables.previous,
+            &self.tables.flags,
+            &self.tables.routebytes,
+            &self.allocations,
+            trains,
+            due,
+        );
+        let change = position_found(
+            found,
+            &self.tables.routebytes,
+            &self.tables.lengths,
+            allocations,
+            trains,
+            due,
+        );
         let tables = self.tables;
         outcome_of(tables, change)
     }

@@ -40,37 +40,178 @@ pub fn start(file: &[u8]) -> ToldStart
 pub fn enter(area: Area, train: u16, route: u16, speed: u16) -> Change
     ensures { λ r. ⌜ Answered area (Enter train route speed) (r .number) (changed area r) ⌝ }
 {
-    area.enter_change(train, route, speed)
+    let allocations = area.allocations;
+    let trains = area.trains;
+    let due = area.due;
+    let found = area::examine(
+        area.tables.segments,
+        area.tables.routes,
+        area.tables.gmax,
+        area.tables.braking,
+        area.tables.margin,
+        &area.tables.lengths,
+        &area.tables.limits,
+        &area.tables.next,
+        &area.tables.previous,
+        &area.tables.flags,
+        &area.tables.routebytes,
+        &area.allocations,
+        trains,
+        due,
+    );
+    area::enter_found(
+        found,
+        area.tables.routes,
+        &area.tables.routebytes,
+        &area.tables.flags,
+        &area.tables.limits,
+        train,
+        route,
+        speed,
+        allocations,
+        trains,
+        due,
+    )
 }
 
 pub fn leave(area: Area, train: u16) -> Change
     ensures { λ r. ⌜ Answered area (Leave train) (r .number) (changed area r) ⌝ }
 {
-    area.leave_change(train)
+    let allocations = area.allocations;
+    let trains = area.trains;
+    let due = area.due;
+    let found = area::examine(
+        area.tables.segments,
+        area.tables.routes,
+        area.tables.gmax,
+        area.tables.braking,
+        area.tables.margin,
+        &area.tables.lengths,
+        &area.tables.limits,
+        &area.tables.next,
+        &area.tables.previous,
+        &area.tables.flags,
+        &area.tables.routebytes,
+        &area.allocations,
+        trains,
+        due,
+    );
+    area::leave_found(
+        found,
+        &area.tables.routebytes,
+        &area.tables.flags,
+        train,
+        allocations,
+        trains,
+        due,
+    )
 }
 
 pub fn speed(area: Area, wishes: &[u16]) -> Change
     ensures { λ r. ⌜ Answered area (Speed (now (wishes .entry))) (r .number) (changed area r) ⌝ }
 {
-    area.speed_change(wishes)
+    let allocations = area.allocations;
+    let trains = area.trains;
+    let due = area.due;
+    let found = area::examine(
+        area.tables.segments,
+        area.tables.routes,
+        area.tables.gmax,
+        area.tables.braking,
+        area.tables.margin,
+        &area.tables.lengths,
+        &area.tables.limits,
+        &area.tables.next,
+        &area.tables.previous,
+        &area.tables.flags,
+        &area.tables.routebytes,
+        &area.allocations,
+        trains,
+        due,
+    );
+    area::speed_found(found, area.tables.braking, wishes, allocations, trains, due)
 }
 
 pub fn request(area: Area) -> Change
     ensures { λ r. ⌜ Answered area Request (r .number) (changed area r) ⌝ }
 {
-    area.request_change()
+    let allocations = area.allocations;
+    let trains = area.trains;
+    let due = area.due;
+    let found = area::examine(
+        area.tables.segments,
+        area.tables.routes,
+        area.tables.gmax,
+        area.tables.braking,
+        area.tables.margin,
+        &area.tables.lengths,
+        &area.tables.limits,
+        &area.tables.next,
+        &area.tables.previous,
+        &area.tables.flags,
+        &area.tables.routebytes,
+        &area.allocations,
+        trains,
+        due,
+    );
+    area::request_found(found, allocations, trains, due)
 }
 
 pub fn grant(area: Area) -> Change
     ensures { λ r. ⌜ Answered area Grant (r .number) (changed area r) ⌝ }
 {
-    area.grant_change()
+    let allocations = area.allocations;
+    let trains = area.trains;
+    let due = area.due;
+    let found = area::examine(
+        area.tables.segments,
+        area.tables.routes,
+        area.tables.gmax,
+        area.tables.braking,
+        area.tables.margin,
+        &area.tables.lengths,
+        &area.tables.limits,
+        &area.tables.next,
+        &area.tables.previous,
+        &area.tables.flags,
+        &area.tables.routebytes,
+        &area.allocations,
+        trains,
+        due,
+    );
+    area::grant_found(found, &area.tables.routebytes, allocations, trains, due)
 }
 
 pub fn position(area: Area) -> Change
     ensures { λ r. ⌜ Answered area Position (r .number) (changed area r) ⌝ }
 {
-    area.position_change()
+    let allocations = area.allocations;
+    let trains = area.trains;
+    let due = area.due;
+    let found = area::examine(
+        area.tables.segments,
+        area.tables.routes,
+        area.tables.gmax,
+        area.tables.braking,
+        area.tables.margin,
+        &area.tables.lengths,
+        &area.tables.limits,
+        &area.tables.next,
+        &area.tables.previous,
+        &area.tables.flags,
+        &area.tables.routebytes,
+        &area.allocations,
+        trains,
+        due,
+    );
+    area::position_found(
+        found,
+        &area.tables.routebytes,
+        &area.tables.lengths,
+        allocations,
+        trains,
+        due,
+    )
 }
 
 pub fn report(area: Area) -> ToldReport

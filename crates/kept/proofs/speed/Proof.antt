@@ -1,3 +1,4 @@
+use mathlib.Core.Path.{refl}
 use borrow.Author.Needs.{needs}
 use denote.Ref.{now}
 use Rattle.separation.specs.Calls.{called, Speed}
@@ -7,7 +8,11 @@ use Rattle.kept.proofs.speed.Tie as tie
 
 returns : tie.Need-returns
 unfolding called
-returns c = let i = c .before .before .args in answered (i .area) (Speed (now (i .wishes))) _ (c .speed-change .ensures)
+returns c =
+    let e = c .before in
+    let i = e .before .before .before .before .before .before .before .before .before .before .before .before .args in
+    answered (i .t1) (Speed (now (i .wishes))) _
+    (c .speed-found .ensures (i .t1) (record { found = e .examine .ensures; allocations = refl; trains = refl; due = refl }) refl)
 
 pub speed-spec : {M : Type 1} → statement M
-speed-spec = tie.close (tie.spec (λ c κs. search needs) returns)
+speed-spec = tie.close (tie.spec (λ c κs. search needs) (λ c κs. search needs) returns)

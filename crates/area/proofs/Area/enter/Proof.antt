@@ -8,9 +8,12 @@ use Rattle.area.proofs.Area.enter.Tie as tie
 returns : tie.Need-returns
 unfolding enterCall afterEnter
 returns c =
-    let i = c .before .before .before .args in
+    let e = c .before .before .before .before .before .before .before in
+    let i = e .before .before .before .before .before .before .before .before .before .before .before .args in
+    let a = i .t1 in
     c .outcome-of .ensures
-    ∙ outcome-by (enterTests (i .self) (i .train) (i .route) (i .speed)) (afterEnter (i .self) (i .train) (i .route) (i .speed)) (i .self) refl refl (c .before .before .enter-change .ensures)
+    ∙ outcome-by (enterTests a (i .train) (i .route) (i .speed)) (afterEnter a (i .train) (i .route) (i .speed)) a refl refl
+    (c .before .before .enter-found .ensures a (record { found = e .examine .ensures; allocations = refl; trains = refl; due = refl }) refl refl refl refl)
 
 pub enter-spec : {M : Type 1} → statement M
-enter-spec = tie.close (tie.spec (λ c κs. search needs) (λ c κs. search needs) returns)
+enter-spec = tie.close (tie.spec (λ c κs. search needs) (λ c κs. search needs) (λ c κs. search needs) returns)

@@ -9,9 +9,12 @@ use Rattle.area.proofs.Area.grant.Tie as tie
 returns : tie.Need-returns
 unfolding grantCall afterGrant
 returns c =
-    let i = c .before .before .before .args in
+    let e = c .before .before .before .before .before in
+    let i = e .before .before .before .before .before .before .before .before .before .before .before .args in
+    let a = i .t1 in
     c .outcome-of .ensures
-    ∙ outcome-by (stepTests grantDue (i .self)) (afterGrant (i .self)) (i .self) refl refl (c .before .before .grant-change .ensures)
+    ∙ outcome-by (stepTests grantDue a) (afterGrant a) a refl refl
+    (c .before .before .grant-found .ensures a (record { found = e .examine .ensures; allocations = refl; trains = refl; due = refl }) refl)
 
 pub grant-spec : {M : Type 1} → statement M
-grant-spec = tie.close (tie.spec (λ c κs. search needs) (λ c κs. search needs) returns)
+grant-spec = tie.close (tie.spec (λ c κs. search needs) (λ c κs. search needs) (λ c κs. search needs) returns)

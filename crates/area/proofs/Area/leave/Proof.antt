@@ -8,9 +8,12 @@ use Rattle.area.proofs.Area.leave.Tie as tie
 returns : tie.Need-returns
 unfolding leaveCall afterLeave
 returns c =
-    let i = c .before .before .before .args in
+    let e = c .before .before .before .before .before .before in
+    let i = e .before .before .before .before .before .before .before .before .before .before .before .args in
+    let a = i .t1 in
     c .outcome-of .ensures
-    ∙ outcome-by (leaveTests (i .self) (i .train)) (afterLeave (i .self) (i .train)) (i .self) refl refl (c .before .before .leave-change .ensures)
+    ∙ outcome-by (leaveTests a (i .train)) (afterLeave a (i .train)) a refl refl
+    (c .before .before .leave-found .ensures a (record { found = e .examine .ensures; allocations = refl; trains = refl; due = refl }) refl refl)
 
 pub leave-spec : {M : Type 1} → statement M
-leave-spec = tie.close (tie.spec (λ c κs. search needs) (λ c κs. search needs) returns)
+leave-spec = tie.close (tie.spec (λ c κs. search needs) (λ c κs. search needs) (λ c κs. search needs) returns)

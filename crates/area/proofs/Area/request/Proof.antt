@@ -9,9 +9,12 @@ use Rattle.area.proofs.Area.request.Tie as tie
 returns : tie.Need-returns
 unfolding requestCall afterRequest
 returns c =
-    let i = c .before .before .before .args in
+    let e = c .before .before .before in
+    let i = e .before .before .before .before .before .before .before .before .before .before .before .args in
+    let a = i .t1 in
     c .outcome-of .ensures
-    ∙ outcome-by (stepTests requestDue (i .self)) (afterRequest (i .self)) (i .self) refl refl (c .before .before .request-change .ensures)
+    ∙ outcome-by (stepTests requestDue a) (afterRequest a) a refl refl
+    (c .before .before .request-found .ensures a (record { found = e .examine .ensures; allocations = refl; trains = refl; due = refl }))
 
 pub request-spec : {M : Type 1} → statement M
-request-spec = tie.close (tie.spec (λ c κs. search needs) (λ c κs. search needs) returns)
+request-spec = tie.close (tie.spec (λ c κs. search needs) (λ c κs. search needs) (λ c κs. search needs) returns)
