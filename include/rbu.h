@@ -70,7 +70,8 @@ enum rbu_due { RBU_DUE_SPEED = 0, RBU_DUE_REQUEST = 1, RBU_DUE_GRANT = 2, RBU_DU
 
 // The record. The caller keeps it: 2,012 bytes, aligned to 4. Its fields are there to be read; only the functions below write it.
 // Any bytes at all are a record: one that was damaged is answered RBU_ANSWER_UNSOUND, or it is sound and its calls are those of
-// document 01, but that it is the record of the run is then no longer said. Padding is never looked at.
+// document 01, but that it is the record of the run is then no longer said. Padding is never looked at, and may hold anything after a
+// call: compare two records by their fields.
 
 // A train: route and place in it, counted from 1; route 0 is a train off, which is all zero. Position in its segment in decimetres,
 // speed in decimetres per cycle; asks is 1 between request and grant where it asks for its next segment, and 0 otherwise.
@@ -143,11 +144,11 @@ bool rbu_is_sound(const struct rbu_area *area);
 // thousands of calls and every answer among them. The figures have a quarter to spare; the tests measure it again and hold them to it
 // (.ci/stack.c). RBU_STACK_CALL is for each function of a running unit but rbu_start.
 #define RBU_STACK_START 13312
-#define RBU_STACK_CALL 20480
+#define RBU_STACK_CALL 7168
 #define RBU_STACK_LOAD 11264
 #define RBU_STACK_VIEW 11264
-#define RBU_STACK_RUN_FILE 29696
-#define RBU_STACK_RUN_RECORD 24576
+#define RBU_STACK_RUN_FILE 22528
+#define RBU_STACK_RUN_RECORD 19456
 #define RBU_STACK_SOUND 10752
 #define RBU_STACK_REPORT_RECORD 13312
 #define RBU_STACK_BRAKING_DISTANCE 1024
