@@ -4,8 +4,8 @@
 //
 //     stack FILE ..
 //
-// It prints the bytes of each function and the figure for it in rbu.h, and fails where a function takes more, where a figure
-// is far too great for all that it is for, and where the inputs miss an answer, since it would then have measured less than there is.
+// It prints the bytes of each function and the figure for it in rbu.h, and fails where a figure has not a quarter to spare, where
+// it is far too great for all that it is for, and where the inputs miss an answer, since it would then have measured less than there is.
 #define _XOPEN_SOURCE 700
 #include <stdio.h>
 #include <string.h>
@@ -295,7 +295,7 @@ int main(int count_of_names, char **names) {
         // the figure is held to the most of those that it is for
         if (k + 1 < FUNCTIONS && strcmp(functions[k].figure_name, functions[k + 1].figure_name) == 0) continue;
         size_t figure = functions[k].figure, fit = figure_for(most);
-        if (most > figure || figure > fit + 1024) {
+        if (most * 5 / 4 > figure || figure > fit + 1024) {
             printf("stack: rbu.h should say: #define %s %zu\n", functions[k].figure_name, fit);
             failed = 1;
         }

@@ -1,8 +1,10 @@
 // How a unit's program uses the core: one record, started with an area file, and then calls as they come, each by its own function.
 // File and calls come from standard input, a call as a record of 64 bytes (docs/FORMATS.md). Standard output is what `replay` prints
-// for the same input; each refusal is named on standard error. The exit status is 1 where the file is refused.
+// for an input that it takes; each refusal is named on standard error. The exit status is 1 where the file is refused, and where a call
+// is cut short or of no known kind.
 //
 //     rt staticlib rbu
+//     cargo build --release --offline --manifest-path reference/Cargo.toml --target-dir target/reference
 //     cc -Iinclude include/example.c target/staticlib/librbu.a -o target/example
 //     (target/reference/release/areas area_a; target/reference/release/script <docs/scenarios/merge.txt) | target/example
 #include <stdio.h>
@@ -46,12 +48,15 @@ static const char *word(enum rbu_answer answer) {
 enum { ENTER = 1, LEAVE = 2, SPEED = 3, REQUEST = 4, GRANT = 5, POSITION = 6 };
 enum { KIND = 0, OF_TRAIN = 1, ON_ROUTE = 2, AT_SPEED = 3, WISHES = 6, FIRST_WISH = 7 };
 
-// Reads the next record; false where no whole one is left. Its items are little-endian, whatever the machine is.
-static bool next_call(uint16_t items[RBU_CALL_ITEMS]) {
+enum next { A_CALL, NO_CALL, CUT_SHORT };
+
+// Reads the next record. Its items are little-endian, whatever the machine is.
+static enum next next_call(uint16_t items[RBU_CALL_ITEMS]) {
     uint8_t bytes[2 * RBU_CALL_ITEMS];
-    if (fread(bytes, sizeof bytes, 1, stdin) != 1) return false;
+    size_t size = fread(bytes, 1, sizeof bytes, stdin);
+    if (size < sizeof bytes) return size == 0 ? NO_CALL : CUT_SHORT;
     for (int i = 0; i < RBU_CALL_ITEMS; i++) items[i] = (uint16_t)(bytes[2 * i] | bytes[2 * i + 1] << 8);
-    return true;
+    return A_CALL;
 }
 
 static bool is_of_a_kind(const uint16_t *items) { return ENTER <= items[KIND] && items[KIND] <= POSITION; }
@@ -100,7 +105,8 @@ static void print_state(void) {
         if (area.allocations[s - 1] != 0) printf("allocation %d %u\n", s, area.allocations[s - 1]);
     }
     uint8_t allocated, free_segment;
-    rbu_report(&area, &allocated, &free_segment);
+    uint8_t number = rbu_report(&area, &allocated, &free_segment);
+    if (number != RBU_ANSWER_DONE) fprintf(stderr, "report: refused, %u %s\n", number, word((enum rbu_answer)number));
     printf("report %u %u\n", allocated, free_segment);
 }
 
@@ -116,15 +122,23 @@ int main(void) {
     }
 
     uint16_t items[RBU_CALL_ITEMS];
-    for (unsigned long call = 1; next_call(items); call++) {
+    enum next next;
+    int status = 0;
+    unsigned long call = 1;
+    for (; (next = next_call(items)) == A_CALL; call++) {
         if (!is_of_a_kind(items)) {
             fprintf(stderr, "call %lu: of kind %u; kinds are 1 to 6, and the list ends here\n", call, items[KIND]);
+            status = 1;
             break;
         }
         number = run(items);
         printf("%u\n", number);
         if (number != RBU_ANSWER_DONE) name_refusal(call, items, number);
     }
+    if (next == CUT_SHORT) {
+        fprintf(stderr, "call %lu: cut short, a call has %d bytes\n", call, 2 * RBU_CALL_ITEMS);
+        status = 1;
+    }
     print_state();
-    return 0;
+    return status;
 }

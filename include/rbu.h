@@ -4,12 +4,15 @@
 //
 // A running unit keeps one record of an area. Start it with rbu_start, hand it to each call as the last one left it, and let nothing
 // else write it: then what the inspectorate asked for holds after every call, refused ones included. No two trains are on one
-// segment, and the rest of demand 3 (README.md).
+// segment, and the other points of README.md, "What has been shown".
 //
-// - Sound means that a record meets every condition of document 01's "A sound record". A record that was started and handed on is
-//   sound; on one that is not, every call answers RBU_ANSWER_UNSOUND and changes nothing.
+// - Sound means: the tables meet load's rules 4 to 10; the step due is one of four; a train off is all zero; a train on stands at a
+//   place of a route, before its segment's end, at most at the limit there, and can brake to a stand before the end of what is
+//   allocated to it; its own segment is allocated to it, its next may be, no other is; and it asks exactly when grant is due, it is
+//   near its segment's end and its next is not allocated to it. A record that was started and handed on is sound; on one that is
+//   not, every call answers RBU_ANSWER_UNSOUND and changes nothing.
 // - Memory: nothing is allocated, nothing is kept after a call, and there are no globals. The archive needs two functions of the C
-//   library, memcpy and memset. It is for x86-64 and its C calling convention.
+//   library, memcpy and memset. It is for x86-64 and the System V calling convention. The header is for C11 and for C++11.
 // - Threads: a function touches what it is handed and nothing else. Two threads may run calls on two records at the same time; on one
 //   record, one call at a time.
 // - Slices are two arguments, a pointer and how many entries it has. A length of 0 goes with any pointer, NULL too. Every other
@@ -83,8 +86,10 @@ struct rbu_train {
     uint8_t asks;
 };
 
-// The tables of the file: N, R, `gmax`, `b` and `d`; then a slot for each segment, two for its next and two for its previous links,
-// and the route records of 32 bytes each, the count and then the segment numbers.
+// The tables of the file: N, R, `gmax`, `b` and `d`. Of segment s: lengths[s - 1], limits[s - 1] and flags[s - 1] (1 entry, 2 exit,
+// sum of both); its next links at next[2 * (s - 1)] and the place after, its previous links likewise, 0 for none. Of route r: how many
+// segments it has at routebytes[32 * (r - 1)], the one at place p at routebytes[32 * (r - 1) + p]. So a train that is on is on segment
+// routebytes[32 * (route - 1) + place].
 struct rbu_tables {
     uint8_t segments;
     uint8_t routes;
@@ -117,13 +122,13 @@ static_assert(sizeof(struct rbu_area) == RBU_AREA_SIZE && alignof(struct rbu_are
 _Static_assert(sizeof(struct rbu_area) == RBU_AREA_SIZE && _Alignof(struct rbu_area) == RBU_AREA_ALIGNMENT, "the layout of a record");
 #endif
 
-// Loads a file into the record. Returns the number of load's answer: RBU_ANSWER_DONE, or 1 to 10, the rule that the file breaks; where
-// it breaks it goes to *place. A refused file leaves the blank record, on which every call answers RBU_ANSWER_UNSOUND. What the record
+// Loads a file into the record. Returns the number of load's answer: RBU_ANSWER_DONE, or 1 to 10, the rule that the file breaks. The
+// place goes to *place: the block, record, segment or route that breaks it first, as docs/FORMATS.md has it, otherwise 0. A refused file leaves the blank record, on which every call answers RBU_ANSWER_UNSOUND. What the record
 // held before plays no part: any bytes will do.
 uint8_t rbu_start(struct rbu_area *area, const uint8_t *file, size_t file_length, uint16_t *place);
 
 // The six calls. Each returns the number of its answer; a refused one leaves the record as it was. Arguments are tested whole: train
-// 257 is refused. `wishes` has an entry for each of the 24 trains, those of trains off are ignored.
+// 257 is refused. wishes[t - 1] is train t's, those of trains off are ignored; a count other than RBU_TRAINS is RBU_ANSWER_WISHES.
 uint8_t rbu_enter(struct rbu_area *area, uint16_t train, uint16_t route, uint16_t speed);
 uint8_t rbu_leave(struct rbu_area *area, uint16_t train);
 uint8_t rbu_speed(struct rbu_area *area, const uint16_t *wishes, size_t count);
@@ -149,8 +154,8 @@ bool rbu_is_sound(const struct rbu_area *area);
 #define RBU_STACK_VIEW 11264
 #define RBU_STACK_RUN_FILE 22528
 #define RBU_STACK_RUN_RECORD 19456
-#define RBU_STACK_SOUND 10752
-#define RBU_STACK_REPORT_RECORD 13312
+#define RBU_STACK_SOUND 11264
+#define RBU_STACK_REPORT_RECORD 14336
 #define RBU_STACK_BRAKING_DISTANCE 1024
 
 // ---- files

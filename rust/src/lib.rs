@@ -1,7 +1,7 @@
 //! The core of the radio block unit: a safe wrapper of the functions that include/rbu.h declares.
 //!
 //! A running unit keeps one [`Area`]: [`Area::start`] loads it from a file, and the six calls follow as they come. After each of them,
-//! refused ones included, no two trains are on one segment, and the rest of demand 3 holds (README.md of the repository). It is proved
+//! refused ones included, no two trains are on one segment, and the other points hold of the repository's README.md, "What has been shown". It is proved
 //! of the functions that are linked in here, for an area that `start` made.
 //!
 //! ```
@@ -196,7 +196,7 @@ pub struct Report {
 
 // ---- a running unit: one area, one call at a time
 
-/// An area that a running unit keeps. Only the calls change it.
+/// An area that a running unit keeps: `start` or `restart` loads it, and the six calls change it.
 #[derive(Clone, PartialEq, Eq, Debug)]
 pub struct Area {
     record: Record,

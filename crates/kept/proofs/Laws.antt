@@ -15,7 +15,7 @@ use Rattle.area.specs.declared.Change.{Change}
 use Rattle.area.specs.declared.Outcome.{Outcome}
 use Rattle.area.specs.Sound.{sound}
 use Rattle.area.specs.Calls.{changeOf, enterCall, leaveCall, speedCall, requestCall, grantCall, positionCall}
-use Rattle.loading.specs.Load.{loaded}
+use Rattle.loading.specs.Load.{blank, loaded}
 use Rattle.loading.proofs.Loading.{done-iff, refused-blank}
 use Rattle.loading.proofs.Fresh.{blank-unsound}
 use Rattle.separation.specs.Calls.{Call, Enter, Leave, Speed, Request, Grant, Position, called}
@@ -69,11 +69,11 @@ refuses a e Request = rw e (refl, refl)
 refuses a e Grant = rw e (refl, refl)
 refuses a e Position = rw e (refl, refl)
 
--- a file whose load is not answered with done gives an unsound record
-refused-unsound : (file : List ℕ) → 1 ≤ numberOf (loaded file .answer) → sound (loaded file .area) ≡ false
-refused-unsound file h =
+-- a file whose load is not answered with done gives the blank record
+not-done : (file : List ℕ) → 1 ≤ numberOf (loaded file .answer) → loaded file .area ≡ blank
+not-done file h =
     let no : accepted file ≡ false = is-false (accepted file) (λ y. let z = done-iff file .1 (accepted-iff file .0 y) in omega arith) in
-    rw (refused-blank file no) blank-unsound
+    refused-blank file no
 
 pub started :
     (file : List ℕ) (n p : ℕ) (a : Area) → n ≡ numberOf (loaded file .answer) → p ≡ placeOf (loaded file .answer) → a ≡ loaded file .area
@@ -85,5 +85,5 @@ started file n p a number place same =
       place = place;
       area = same;
       kept = λ z. kept file [] a (record { done = sym number ∙ z; same = same });
-      refused = λ h. refuses a (ap sound same ∙ refused-unsound file (omega arith));
+      refused = λ h. let none = same ∙ not-done file (omega arith) in (none, refuses a (ap sound none ∙ blank-unsound));
     }

@@ -1,5 +1,5 @@
 -- What is claimed of a record that a caller keeps between calls (document 01, "Whole runs": "Each call is handed the record that the one
--- before handed back"). a is the record before a call, b the record after it, n the number of its answer.
+-- before handed back"). a is a record, c a call on it, b the record after the call; n is an answer's number, p its place.
 use Prim.Native.Nat.{ℕ, _≤_}
 use mathlib.Core.Path.{_≡_}
 use mathlib.Core.List.{List, [], _∷_, _++_}
@@ -7,7 +7,7 @@ use Rattle.decoding.specs.Decoding.{decoded}
 use Rattle.answers.specs.Answers.{numberOf, placeOf}
 use Rattle.area.specs.declared.Area.{Area}
 use Rattle.area.specs.declared.Change.{Change}
-use Rattle.loading.specs.Load.{loaded}
+use Rattle.loading.specs.Load.{blank, loaded}
 use Rattle.separation.specs.Calls.{Call, called}
 use Rattle.separation.specs.Runs.{after}
 use Rattle.separation.specs.Claim.{Separated}
@@ -34,10 +34,10 @@ abbrev pub changed : Area → Change → Area
 changed a r = record { tables = a .tables; allocations = r .allocations; trains = r .trains; due = r .due }
 
 -- load's answer to a file, and the record that it gives: where the answer is done, the record after the empty list of calls; where it is
--- not, one on which every call answers 11 and changes nothing
+-- not, the blank record, on which every call answers 11 and changes nothing
 pub record Started (file : List ℕ) (n p : ℕ) (a : Area) : Type 0 where
   pub number : n ≡ numberOf (loaded file .answer)
   pub place : p ≡ placeOf (loaded file .answer)
   pub area : a ≡ loaded file .area
   pub kept : n ≡ 0 → Kept file [] a
-  pub refused : 1 ≤ n → (c : Call) → (numberOf (called a c .answer) ≡ 11) × (called a c .area ≡ a)
+  pub refused : 1 ≤ n → (a ≡ blank) × ((c : Call) → (numberOf (called a c .answer) ≡ 11) × (called a c .area ≡ a))

@@ -1,5 +1,5 @@
-// The calls on a record that a caller keeps between them, told by value: the answer's number, and what is changed of the record. `Started` and
-// `Answered` say what each does, and what holds of a record that was started by load and handed from call to call.
+// The calls on a record that a caller keeps between them, told by value: the answer's number, and what is changed of the record.
+// `Started` and `Answered` say what each does, and what holds of a record that was started by load and handed from call to call.
 ghost use mathlib.Core.Path.{_≡_};
 ghost use Rattle.answers.specs.Answers.{numberOf};
 ghost use Rattle.area.specs.Calls.{reported};

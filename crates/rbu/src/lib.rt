@@ -1,5 +1,6 @@
-// What C or Rust links: the core's functions over lent slices of bytes and of 16-bit words. A slice is a pointer and a length;
-// a result beside the returned one goes through a reference. The layouts are in docs/FORMATS.md, the declarations in include/.
+// What C or Rust links: the core's functions over a lent record and over lent slices of bytes and of 16-bit numbers. A slice is a
+// pointer and a length; a result beside the returned one goes through a reference. The layouts are in docs/FORMATS.md, the
+// declarations in include/.
 ghost use mathlib.Core.Path.{_≡_};
 ghost use lib.ListN.{length};
 ghost use Rattle.braking.specs.Distance.{distanceAt};

@@ -7,7 +7,6 @@ use lib.ListN.{length, getD, drop, replicate, length-append, drop-of-length-le}
 use lib.Seq.{drop-cons, take-all}
 use native.Mathlib.Numerals.{add-one}
 use borrow.Author.Tests.{eq-eqb, ne-eqb}
-use Rattle.lists.specs.Words.{if_then_else_}
 use Rattle.file.specs.Bytes.{two, four, putAt}
 use Rattle.file.specs.Layout.{fileSize}
 use Rattle.file.proofs.Rows.{put-nothing, put-next}

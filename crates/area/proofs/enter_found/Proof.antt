@@ -1,6 +1,6 @@
 -- The number of the first test that holds decides; where none does, the contracts of the taken segment and of the entered train make the
 -- rest.
-use mathlib.Core.Path.{_≡_, refl, sym, ap, _∙_}
+use mathlib.Core.Path.{_≡_, refl, sym, ap}
 use mathlib.Core.Bool.{false, not}
 use mathlib.Core.List.{List, [], _∷_}
 use Prim.Native.Nat.{ℕ}

@@ -1,5 +1,5 @@
 -- As for every step; that the record was found sound, test 11 passed, gives each train the room that its move asks for.
-use mathlib.Core.Path.{_≡_, refl, sym, ap, _∙_}
+use mathlib.Core.Path.{_≡_, refl, sym, ap}
 use borrow.Author.Needs.{needs}
 use Rattle.lists.specs.Tests.{_⇒_, firstOf}
 use Rattle.trains.specs.Due.{positionDue}

@@ -1,5 +1,5 @@
 -- The number of the first test that holds decides; where none does, the contract of the requests makes the trains.
-use mathlib.Core.Path.{_≡_, refl, sym, ap, _∙_}
+use mathlib.Core.Path.{_≡_, refl, ap}
 use borrow.Author.Needs.{needs}
 use Rattle.lists.specs.Tests.{firstOf}
 use Rattle.trains.specs.Due.{requestDue}

@@ -213,6 +213,7 @@ impl List {
         same(self.seed, "the answers where there is less room", &answers[..], &self.numbers[..room]);
         same_state(self.seed, "the state where there is less room", &state, &self.states[room][..size]);
     }
+
     /// The list in two parts: the state that the first wrote, read back, continues the run. The buffer may be longer than a state.
     fn in_two(&self, random: &mut Random) {
         let first = random.within(0, self.calls.len() as u64) as usize;
