@@ -48,13 +48,13 @@ use Rattle.area.specs.Calls.{reported}
 use Rattle.area.specs.declared.Change.{Change}
 use Rattle.area.proofs.Area as Rec
 use Rattle.area.proofs.Area.Laws as Rec′
-use Rattle.kept.specs.declared.ToldStart.{ToldStart}
+use Rattle.running.specs.declared.ToldStart.{ToldStart}
 use Rattle.kept.specs.Kept.{Started, changed}
-use Rattle.kept.specs.declared.ToldReport.{ToldReport}
-use Rattle.kept.proofs.ToldReport as G
-use Rattle.kept.proofs.ToldReport.Laws as G′
-use Rattle.kept.proofs.ToldStart as F
-use Rattle.kept.proofs.ToldStart.Laws as F′
+use Rattle.running.specs.declared.ToldReport.{ToldReport}
+use Rattle.running.proofs.ToldReport as G
+use Rattle.running.proofs.ToldReport.Laws as G′
+use Rattle.running.proofs.ToldStart as F
+use Rattle.running.proofs.ToldStart.Laws as F′
 use Rattle.area.proofs.Change as S
 use Rattle.area.proofs.Change.Laws as S′
 use Rattle.rbu.proofs.rbu_start as start

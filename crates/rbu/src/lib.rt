@@ -24,7 +24,7 @@ use area::Area;
 pub extern "C" fn rbu_start(area: &mut Area, file: &[u8], place: &mut u16) -> u8
     ensures { λ r. ⌜ Started (now (file .entry)) r (now (place .exit)) (now (area .exit)) ⌝ }
 {
-    let start = kept::start(file);
+    let start = running::start(file);
     *area = start.area;
     *place = start.place;
     start.number
@@ -36,7 +36,7 @@ pub extern "C" fn rbu_enter(area: &mut Area, train: u16, route: u16, speed: u16)
     ensures { λ r. ⌜ Answered (now (area .entry)) (Enter train route speed) r (now (area .exit)) ⌝ }
 {
     let before = *area;
-    let change = kept::enter(before, train, route, speed);
+    let change = running::enter(before, train, route, speed);
     area.allocations = change.allocations;
     area.trains = change.trains;
     area.due = change.due;
@@ -48,7 +48,7 @@ pub extern "C" fn rbu_leave(area: &mut Area, train: u16) -> u8
     ensures { λ r. ⌜ Answered (now (area .entry)) (Leave train) r (now (area .exit)) ⌝ }
 {
     let before = *area;
-    let change = kept::leave(before, train);
+    let change = running::leave(before, train);
     area.allocations = change.allocations;
     area.trains = change.trains;
     area.due = change.due;
@@ -60,7 +60,7 @@ pub extern "C" fn rbu_speed(area: &mut Area, wishes: &[u16]) -> u8
     ensures { λ r. ⌜ Answered (now (area .entry)) (Speed (now (wishes .entry))) r (now (area .exit)) ⌝ }
 {
     let before = *area;
-    let change = kept::speed(before, wishes);
+    let change = running::speed(before, wishes);
     area.allocations = change.allocations;
     area.trains = change.trains;
     area.due = change.due;
@@ -72,7 +72,7 @@ pub extern "C" fn rbu_request(area: &mut Area) -> u8
     ensures { λ r. ⌜ Answered (now (area .entry)) Request r (now (area .exit)) ⌝ }
 {
     let before = *area;
-    let change = kept::request(before);
+    let change = running::request(before);
     area.allocations = change.allocations;
     area.trains = change.trains;
     area.due = change.due;
@@ -84,7 +84,7 @@ pub extern "C" fn rbu_grant(area: &mut Area) -> u8
     ensures { λ r. ⌜ Answered (now (area .entry)) Grant r (now (area .exit)) ⌝ }
 {
     let before = *area;
-    let change = kept::grant(before);
+    let change = running::grant(before);
     area.allocations = change.allocations;
     area.trains = change.trains;
     area.due = change.due;
@@ -96,7 +96,7 @@ pub extern "C" fn rbu_position(area: &mut Area) -> u8
     ensures { λ r. ⌜ Answered (now (area .entry)) Position r (now (area .exit)) ⌝ }
 {
     let before = *area;
-    let change = kept::position(before);
+    let change = running::position(before);
     area.allocations = change.allocations;
     area.trains = change.trains;
     area.due = change.due;
@@ -109,7 +109,7 @@ pub extern "C" fn rbu_report(area: &Area, allocated: &mut u8, free: &mut u8) -> 
     ensures { λ r. ⌜ (r ≡ numberOf (reported (now (area .entry)) .answer)) × ((now (allocated .exit) ≡ reported (now (area .entry)) .allocated) × (now (free .exit) ≡ reported (now (area .entry)) .free)) ⌝ }
 {
     let before = *area;
-    let told = kept::report(before);
+    let told = running::report(before);
     *allocated = told.allocated;
     *free = told.free;
     told.number
@@ -211,7 +211,7 @@ pub extern "C" fn rbu_report_record(
     ensures { λ _. ⌜ now (allocated .exit) ≡ reported (recordOf (now (file .entry)) (now (state .entry))) .allocated ⌝ }
     ensures { λ _. ⌜ now (free .exit) ≡ reported (recordOf (now (file .entry)) (now (state .entry))) .free ⌝ }
 {
-    let told = kept::report(state::record_of(file, state));
+    let told = running::report(state::record_of(file, state));
     *allocated = told.allocated;
     *free = told.free;
     told.number

@@ -1,9 +1,9 @@
 use mathlib.Core.Path.{refl}
 use borrow.Author.Needs.{needs}
 use Rattle.separation.specs.Calls.{called, Leave}
 use Rattle.kept.proofs.Laws.{answered}
-use Rattle.kept.proofs.leave.Statement.{statement}
-use Rattle.kept.proofs.leave.Tie as tie
+use Rattle.running.proofs.leave.Statement.{statement}
+use Rattle.running.proofs.leave.Tie as tie
 
 returns : tie.Need-returns
 unfolding called

@@ -6,9 +6,9 @@ use Rattle.trains.specs.Train.{mostTrains}
 use Rattle.area.specs.declared.Examined.{Examined}
 use Rattle.area.proofs.Soundness.{sound-iff, room-of}
 use Rattle.separation.specs.Calls.{called, Position}
 use Rattle.kept.proofs.Laws.{answered}
-use Rattle.kept.proofs.position.Statement.{statement}
-use Rattle.kept.proofs.position.Tie as tie
+use Rattle.running.proofs.position.Statement.{statement}
+use Rattle.running.proofs.position.Tie as tie
 
 long : (s : tie.Start) → length (s .args .t1 .trains) ≡ mostTrains
 long s = search long-of

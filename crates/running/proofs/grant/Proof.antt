@@ -1,9 +1,9 @@
 use mathlib.Core.Path.{refl}
 use borrow.Author.Needs.{needs}
 use Rattle.separation.specs.Calls.{called, Grant}
 use Rattle.kept.proofs.Laws.{answered}
-use Rattle.kept.proofs.grant.Statement.{statement}
-use Rattle.kept.proofs.grant.Tie as tie
+use Rattle.running.proofs.grant.Statement.{statement}
+use Rattle.running.proofs.grant.Tie as tie
 
 returns : tie.Need-returns
 unfolding called

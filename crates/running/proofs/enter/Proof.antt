@@ -1,9 +1,9 @@
 use mathlib.Core.Path.{refl}
 use borrow.Author.Needs.{needs}
 use Rattle.separation.specs.Calls.{called, Enter}
 use Rattle.kept.proofs.Laws.{answered}
-use Rattle.kept.proofs.enter.Statement.{statement}
-use Rattle.kept.proofs.enter.Tie as tie
+use Rattle.running.proofs.enter.Statement.{statement}
+use Rattle.running.proofs.enter.Tie as tie
 
 returns : tie.Need-returns
 unfolding called

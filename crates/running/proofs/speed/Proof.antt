@@ -2,9 +2,9 @@ use mathlib.Core.Path.{refl}
 use borrow.Author.Needs.{needs}
 use denote.Ref.{now}
 use Rattle.separation.specs.Calls.{called, Speed}
 use Rattle.kept.proofs.Laws.{answered}
-use Rattle.kept.proofs.speed.Statement.{statement}
-use Rattle.kept.proofs.speed.Tie as tie
+use Rattle.running.proofs.speed.Statement.{statement}
+use Rattle.running.proofs.speed.Tie as tie
 
 returns : tie.Need-returns
 unfolding called

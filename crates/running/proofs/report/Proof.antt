@@ -2,8 +2,8 @@ use mathlib.Core.Path.{ap, _∙_}
 use borrow.Author.Needs.{needs}
 use Rattle.area.specs.declared.Report.{Report}
 use Rattle.answers.specs.Answers.{numberOf}
-use Rattle.kept.proofs.report.Statement.{statement}
-use Rattle.kept.proofs.report.Tie as tie
+use Rattle.running.proofs.report.Statement.{statement}
+use Rattle.running.proofs.report.Tie as tie
 
 report-requires : tie.Need-report-requires
 report-requires c κs = search needs

@@ -2,9 +2,9 @@ use mathlib.Core.Path.{ap, _∙_}
 use borrow.Author.Needs.{needs}
 use Rattle.area.specs.declared.Outcome.{Outcome}
 use Rattle.answers.specs.Answers.{numberOf, placeOf}
 use Rattle.kept.proofs.Laws.{started}
-use Rattle.kept.proofs.start.Statement.{statement}
-use Rattle.kept.proofs.start.Tie as tie
+use Rattle.running.proofs.start.Statement.{statement}
+use Rattle.running.proofs.start.Tie as tie
 
 load-requires : tie.Need-load-requires
 load-requires c κs = search needs
