@@ -28,8 +28,8 @@ pub fn start(file: &[u8]) -> ToldStart
     let o = loading::load(file);
     let answer = o.answer;
     let area = o.area;
-    let number = answers::number_of(answer);
-    let place = answers::place_of(answer);
+    let mut place: u16 = 0;
+    let number = answers::tell(answer, &mut place);
     ToldStart {
         number,
         place,
