@@ -28,11 +28,12 @@ struct result {
     uint32_t told[2];
     uint8_t answers[CALLS + 1];
     uint8_t state[RBU_STATE_SIZE];
+    uint8_t buffer[RBU_FILE_SIZE];
     struct rbu_area area;
 };
 
 // The slices of a run: which of them are empty, and whether an empty one is NULL.
-enum { FILE_EMPTY = 1, SCRIPT_EMPTY = 2, ANSWERS_EMPTY = 4, STATE_EMPTY = 8, ALL_EMPTY = 15 };
+enum { FILE_EMPTY = 1, SCRIPT_EMPTY = 2, ANSWERS_EMPTY = 4, STATE_EMPTY = 8, BUFFER_EMPTY = 16, ALL_OF_A_RUN = 15 };
 static int empty;
 static bool null;
 
@@ -45,6 +46,7 @@ static const uint16_t *words(int slice, const uint16_t *whole) { return !(empty 
 #define OF_WISHES words(SCRIPT_EMPTY, wishes), length(SCRIPT_EMPTY, RBU_TRAINS)
 #define OF_ANSWERS bytes(ANSWERS_EMPTY, r->answers), length(ANSWERS_EMPTY, sizeof r->answers)
 #define OF_STATE bytes(STATE_EMPTY, r->state), length(STATE_EMPTY, sizeof r->state)
+#define OF_BUFFER bytes(BUFFER_EMPTY, r->buffer), length(BUFFER_EMPTY, sizeof r->buffer)
 
 static void start(struct result *r) {
     uint16_t place = 99;
@@ -55,6 +57,11 @@ static void speed(struct result *r) {
     uint16_t place;
     rbu_start(&r->area, file, sizeof file, &place);
     r->returned = rbu_speed(&r->area, OF_WISHES);
+}
+static void write_area(struct result *r) {
+    uint16_t place;
+    rbu_start(&r->area, file, sizeof file, &place);
+    r->returned = rbu_write(&r->area, OF_BUFFER);
 }
 static void load(struct result *r) {
     uint16_t place = 99;
@@ -88,23 +95,32 @@ static void report_record(struct result *r) {
     r->told[0] = allocated;
     r->told[1] = free_segment;
 }
+static void write_record(struct result *r) {
+    memset(r->state, 0, sizeof r->state);
+    r->returned = rbu_write_record(OF_FILE, OF_STATE, OF_BUFFER);
+}
 
-// Each function with its slices, those of them that matter, and what it must return where one of these is empty and where none is.
-// Of the view, which returns nothing, this is the count.
+// Each function with its slices, those of them that matter, what it must return where one of these is empty and where none is, and
+// where a certain one of them alone is empty, if that is something else. Of the view, which returns nothing, this is the count.
 static const struct {
     const char *name;
     void (*run)(struct result *);
     int slices, matter;
     size_t empty, whole;
+    int alone;
+    size_t empty_alone;
 } functions[] = {
-    {"rbu_start", start, FILE_EMPTY, FILE_EMPTY, RBU_ANSWER_SIZE, RBU_ANSWER_DONE},
-    {"rbu_speed", speed, SCRIPT_EMPTY, SCRIPT_EMPTY, RBU_ANSWER_WISHES, RBU_ANSWER_DONE},
-    {"rbu_load", load, FILE_EMPTY, FILE_EMPTY, RBU_ANSWER_SIZE, RBU_ANSWER_DONE},
-    {"rbu_view", view, FILE_EMPTY, FILE_EMPTY, 0, 2},
-    {"rbu_run_file", run_file, ALL_EMPTY, FILE_EMPTY | SCRIPT_EMPTY | ANSWERS_EMPTY, 0, CALLS},
-    {"rbu_run_record", run_record, ALL_EMPTY, SCRIPT_EMPTY | ANSWERS_EMPTY, 0, CALLS},
-    {"rbu_sound", sound, FILE_EMPTY | STATE_EMPTY, FILE_EMPTY, false, true},
-    {"rbu_report_record", report_record, FILE_EMPTY | STATE_EMPTY, FILE_EMPTY, RBU_ANSWER_UNSOUND, RBU_ANSWER_DONE},
+    {"rbu_start", start, FILE_EMPTY, FILE_EMPTY, RBU_ANSWER_SIZE, RBU_ANSWER_DONE, 0, 0},
+    {"rbu_speed", speed, SCRIPT_EMPTY, SCRIPT_EMPTY, RBU_ANSWER_WISHES, RBU_ANSWER_DONE, 0, 0},
+    {"rbu_write", write_area, BUFFER_EMPTY, BUFFER_EMPTY, RBU_ANSWER_BUFFER, RBU_ANSWER_DONE, 0, 0},
+    {"rbu_load", load, FILE_EMPTY, FILE_EMPTY, RBU_ANSWER_SIZE, RBU_ANSWER_DONE, 0, 0},
+    {"rbu_view", view, FILE_EMPTY, FILE_EMPTY, 0, 2, 0, 0},
+    {"rbu_run_file", run_file, ALL_OF_A_RUN, FILE_EMPTY | SCRIPT_EMPTY | ANSWERS_EMPTY, 0, CALLS, 0, 0},
+    {"rbu_run_record", run_record, ALL_OF_A_RUN, SCRIPT_EMPTY | ANSWERS_EMPTY, 0, CALLS, 0, 0},
+    {"rbu_sound", sound, FILE_EMPTY | STATE_EMPTY, FILE_EMPTY, false, true, 0, 0},
+    {"rbu_report_record", report_record, FILE_EMPTY | STATE_EMPTY, FILE_EMPTY, RBU_ANSWER_UNSOUND, RBU_ANSWER_DONE, 0, 0},
+    {"rbu_write_record", write_record, FILE_EMPTY | STATE_EMPTY | BUFFER_EMPTY, FILE_EMPTY | BUFFER_EMPTY, RBU_ANSWER_UNSOUND,
+     RBU_ANSWER_DONE, BUFFER_EMPTY, RBU_ANSWER_BUFFER},
 };
 
 #define SAME(field) (memcmp(&a->field, &b->field, sizeof a->field) == 0)
@@ -122,7 +138,7 @@ static bool same_area(const struct rbu_area *a, const struct rbu_area *b) {
 }
 
 static bool same(const struct result *a, const struct result *b) {
-    return SAME(returned) && SAME(told) && SAME(answers) && SAME(state) && same_area(&a->area, &b->area);
+    return SAME(returned) && SAME(told) && SAME(answers) && SAME(state) && SAME(buffer) && same_area(&a->area, &b->area);
 }
 
 static bool is_untouched(void) {
@@ -151,7 +167,10 @@ int main(int count_of_names, char **names) {
             functions[k].run(&with_pointer);
             null = true;
             functions[k].run(&with_null);
-            size_t returns = empty & functions[k].matter ? functions[k].empty : functions[k].whole;
+            int missing = empty & functions[k].matter;
+            size_t returns = missing == 0                    ? functions[k].whole
+                             : missing == functions[k].alone ? functions[k].empty_alone
+                                                             : functions[k].empty;
             if (!same(&with_pointer, &with_null) || with_null.returned != returns || !is_untouched()) {
                 printf("null: %s with slices %d empty: returns %zu and, with NULL, %zu; it must be %zu, and all else the same\n",
                        functions[k].name, empty, with_pointer.returned, with_null.returned, returns);

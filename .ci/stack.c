@@ -13,7 +13,7 @@
 
 #include "rbu.h"
 
-enum { STACK = 256 * 1024, CYCLES = 300, MOST_CALLS = 64 + CYCLES * 32, ANSWERS = 22, KINDS = 7 };
+enum { STACK = 256 * 1024, CYCLES = 300, MOST_CALLS = 64 + CYCLES * 32, ANSWERS = 23, KINDS = 7 };
 
 // ---- what the functions are handed, and what they give
 
@@ -31,6 +31,8 @@ static uint8_t number, allocated, free_segment;
 static uint16_t place;
 static uint32_t start, count;
 static bool sound_record;
+static uint8_t buffer[RBU_FILE_SIZE + 1];
+static size_t buffer_length;
 // a kept record, before a call and after it, and the call's record
 static struct rbu_area before, kept;
 static const uint16_t *items;
@@ -63,6 +65,7 @@ static void position(void) {
 }
 static void report(void) { number = rbu_report(&kept, &allocated, &free_segment); }
 static void is_sound(void) { sound_record = rbu_is_sound(&kept); }
+static void write_area(void) { number = rbu_write(&kept, buffer, buffer_length); }
 static void load(void) { number = rbu_load(file, file_length, &place); }
 static void view(void) { rbu_view(file, file_length, route, &start, &count); }
 static void run_file(void) {
@@ -74,6 +77,9 @@ static void run_record(void) {
 static void sound(void) { sound_record = rbu_sound(file, file_length, state, state_length); }
 static void report_record(void) {
     number = rbu_report_record(file, file_length, state, state_length, &allocated, &free_segment);
+}
+static void write_record(void) {
+    number = rbu_write_record(file, file_length, state, state_length, buffer, buffer_length);
 }
 static void braking_distance(void) { start = rbu_braking_distance(1, 1000); }
 
@@ -120,12 +126,14 @@ enum {
     POSITION,
     REPORT,
     IS_SOUND,
+    WRITE,
     LOAD,
     VIEW,
     RUN_FILE,
     RUN_RECORD,
     SOUND,
     REPORT_RECORD,
+    WRITE_RECORD,
     BRAKING_DISTANCE,
     FUNCTIONS
 };
@@ -148,12 +156,14 @@ static struct {
     [POSITION] = ROW(rbu_position, position, CALL),
     [REPORT] = ROW(rbu_report, report, CALL),
     [IS_SOUND] = ROW(rbu_is_sound, is_sound, CALL),
+    [WRITE] = ROW(rbu_write, write_area, CALL),
     [LOAD] = ROW(rbu_load, load, LOAD),
     [VIEW] = ROW(rbu_view, view, VIEW),
     [RUN_FILE] = ROW(rbu_run_file, run_file, RUN_FILE),
     [RUN_RECORD] = ROW(rbu_run_record, run_record, RUN_RECORD),
     [SOUND] = ROW(rbu_sound, sound, SOUND),
     [REPORT_RECORD] = ROW(rbu_report_record, report_record, REPORT_RECORD),
+    [WRITE_RECORD] = ROW(rbu_write_record, write_record, WRITE_RECORD),
     [BRAKING_DISTANCE] = ROW(rbu_braking_distance, braking_distance, BRAKING_DISTANCE),
 };
 
@@ -212,6 +222,19 @@ static void note_answers(void) {
     }
 }
 
+// A write into a buffer of a file's size, and into others.
+static bool written, written_kept;
+
+static void measure_writes(int k, bool *answered, bool *done_once) {
+    static const size_t lengths[] = {RBU_FILE_SIZE, RBU_FILE_SIZE + 1, 0};
+    for (int i = 0; i < 3; i++) {
+        buffer_length = lengths[i];
+        measure(k);
+        answered[number] = true;
+        if (number == 0) *done_once = true;
+    }
+}
+
 // Calls of the script on the kept record, one by one: measured are the first two of each kind with each answer.
 static void run_kept(size_t count_of_calls) {
     unsigned seen[KINDS][ANSWERS] = {{0}};
@@ -225,6 +248,7 @@ static void run_kept(size_t count_of_calls) {
         measure(items[0]);
         measure(REPORT);
         measure(IS_SOUND);
+        measure_writes(WRITE, met_kept, &written_kept);
     }
 }
 
@@ -247,10 +271,12 @@ static void run_all(void) {
     // a record that the list has led to, the same with another step due, one with no step due, and one cut short
     measure(SOUND);
     measure(REPORT_RECORD);
+    measure_writes(WRITE_RECORD, met, &written);
     for (int due = 0; due <= 4; due++) {
         state[0] = (uint8_t)due;
         measure(SOUND);
         measure(REPORT_RECORD);
+        measure_writes(WRITE_RECORD, met, &written);
     }
     measure(RUN_RECORD);
     note_answers();
@@ -262,6 +288,7 @@ static void run_all(void) {
     measure(RUN_RECORD);
     measure(SOUND);
     measure(REPORT_RECORD);
+    measure_writes(WRITE_RECORD, met, &written);
 }
 
 int main(int count_of_names, char **names) {
@@ -286,6 +313,10 @@ int main(int count_of_names, char **names) {
     for (int kind = 1; kind < KINDS; kind++) {
         if (done[kind] && done_kept[kind]) continue;
         printf("stack: no call of kind %d is answered done%s\n", kind, done[kind] ? " on a kept record" : "");
+        failed = 1;
+    }
+    if (!written || !written_kept) {
+        printf("stack: no write is answered done%s\n", written ? " on a kept record" : "");
         failed = 1;
     }
     size_t most = 0;

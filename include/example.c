@@ -1,20 +1,22 @@
 // How a unit's program uses the core: one record, started with an area file, and then calls as they come, each by its own function.
 // File and calls come from standard input, a call as a record of 64 bytes (docs/FORMATS.md). Standard output is what `replay` prints
-// for an input that it takes; each refusal is named on standard error. The exit status is 1 where the file is refused, and where a call
-// is cut short or of no known kind.
+// for an input that it takes; each refusal is named on standard error. After the calls the area file is written back and held to the one
+// that was read; where a file is named, it goes there. The exit status is 1 where the file is refused, where a call is cut short or of
+// no known kind, and where the file cannot be written back.
 //
 //     rt staticlib rbu
 //     cargo build --release --offline --manifest-path reference/Cargo.toml --target-dir target/reference
 //     cc -Iinclude include/example.c target/staticlib/librbu.a -o target/example
-//     (target/reference/release/areas area_a; target/reference/release/script <docs/scenarios/merge.txt) | target/example
+//     (target/reference/release/areas area_a; target/reference/release/script <docs/scenarios/merge.txt) | target/example target/back
 #include <stdio.h>
+#include <string.h>
 
 #include "rbu.h"
 
 // The unit's record. It is read here, and only the functions of rbu.h write it.
 static struct rbu_area area;
 
-// Document 01's word for an answer. The compiler warns where the header has one more.
+// The word for an answer (docs/FORMATS.md). The compiler warns where the header has one more.
 static const char *word(enum rbu_answer answer) {
     switch (answer) {
     case RBU_ANSWER_DONE: return "done";
@@ -39,6 +41,7 @@ static const char *word(enum rbu_answer answer) {
     case RBU_ANSWER_TOO_FAST: return "too fast";
     case RBU_ANSWER_NO_EXIT: return "no exit";
     case RBU_ANSWER_WISHES: return "wishes";
+    case RBU_ANSWER_BUFFER: return "buffer";
     }
     return "no such answer";
 }
@@ -110,7 +113,29 @@ static void print_state(void) {
     printf("report %u %u\n", allocated, free_segment);
 }
 
-int main(void) {
+// ---- the area file again
+
+// Writes the file of the area's tables to `name`, if there is one, and holds it to the file that was read.
+static bool write_back(const uint8_t *file, const char *name) {
+    static uint8_t written[RBU_FILE_SIZE];
+    uint8_t number = rbu_write(&area, written, sizeof written);
+    if (number != RBU_ANSWER_DONE) {
+        fprintf(stderr, "write: refused, %u %s\n", number, word((enum rbu_answer)number));
+        return false;
+    }
+    if (memcmp(written, file, sizeof written) != 0) {
+        fprintf(stderr, "write: it is not the file that was read\n");
+        return false;
+    }
+    if (name == NULL) return true;
+    FILE *output = fopen(name, "wb");
+    bool done = output != NULL && fwrite(written, 1, sizeof written, output) == sizeof written;
+    if (output != NULL && fclose(output) != 0) done = false;
+    if (!done) fprintf(stderr, "write: %s cannot be written\n", name);
+    return done;
+}
+
+int main(int count, char **arguments) {
     static uint8_t file[RBU_FILE_SIZE];
     size_t size = fread(file, 1, sizeof file, stdin);
     uint16_t place;
@@ -140,5 +165,6 @@ int main(void) {
         status = 1;
     }
     print_state();
+    if (!write_back(file, count > 1 ? arguments[1] : NULL)) status = 1;
     return status;
 }

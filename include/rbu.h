@@ -40,7 +40,7 @@ extern "C" {
 #define RBU_ROUTES 30
 #define RBU_TRAINS 24
 
-// The answers: done, what load finds of a file (1 to 10), the refusals of calls (11 to 21).
+// The answers: done, what load finds of a file (1 to 10), the refusals of calls (11 to 21) and of a write (11 and 22).
 enum rbu_answer {
     RBU_ANSWER_DONE = 0,
     RBU_ANSWER_SIZE = 1,
@@ -63,7 +63,8 @@ enum rbu_answer {
     RBU_ANSWER_TAKEN = 18,
     RBU_ANSWER_TOO_FAST = 19,
     RBU_ANSWER_NO_EXIT = 20,
-    RBU_ANSWER_WISHES = 21
+    RBU_ANSWER_WISHES = 21,
+    RBU_ANSWER_BUFFER = 22
 };
 
 // The steps of a cycle, in their order.
@@ -143,6 +144,12 @@ uint8_t rbu_report(const struct rbu_area *area, uint8_t *allocated, uint8_t *fre
 // The record is sound.
 bool rbu_is_sound(const struct rbu_area *area);
 
+// Writes the tables of the record into `buffer` as an area file of RBU_FILE_SIZE bytes; trains are not written. Returns the number of
+// the answer: RBU_ANSWER_DONE, RBU_ANSWER_UNSOUND, or RBU_ANSWER_BUFFER where the buffer has another length. A refusal leaves the
+// buffer as it was. Otherwise all of it is written, and loading it gives these tables; of a record that was started and handed on it
+// is the file that the record was started with, byte for byte.
+uint8_t rbu_write(const struct rbu_area *area, uint8_t *buffer, size_t buffer_length);
+
 // ---- the stack
 
 // The stack that a call of each function takes, in bytes. No theorem bounds it: it is measured, on a painted stack, with lists of
@@ -156,6 +163,7 @@ bool rbu_is_sound(const struct rbu_area *area);
 #define RBU_STACK_RUN_RECORD 19456
 #define RBU_STACK_SOUND 11264
 #define RBU_STACK_REPORT_RECORD 14336
+#define RBU_STACK_WRITE_RECORD 14336
 #define RBU_STACK_BRAKING_DISTANCE 1024
 
 // ---- files
@@ -203,6 +211,12 @@ uint8_t rbu_report_record(
     const uint8_t *state, size_t state_length,
     uint8_t *allocated,
     uint8_t *free_segment);
+
+// The tables of such a record as a file, as by rbu_write.
+uint8_t rbu_write_record(
+    const uint8_t *file, size_t file_length,
+    const uint8_t *state, size_t state_length,
+    uint8_t *buffer, size_t buffer_length);
 
 // ---- braking
 

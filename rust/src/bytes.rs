@@ -73,3 +73,9 @@ pub fn report_record(file: &[u8], state: &[u8]) -> (u8, u8, u8) {
     let number = unsafe { rbu_report_record(file.as_ptr(), file.len(), state.as_ptr(), state.len(), &mut allocated, &mut free) };
     (number, allocated, free)
 }
+
+/// Writes the tables of any record as a file into a buffer: the number of the answer. The buffer is as it was unless that is 0.
+pub fn write_record(file: &[u8], state: &[u8], buffer: &mut [u8]) -> u8 {
+    // SAFETY: all three are slices, the one that is written by `&mut`.
+    unsafe { rbu_write_record(file.as_ptr(), file.len(), state.as_ptr(), state.len(), buffer.as_mut_ptr(), buffer.len()) }
+}

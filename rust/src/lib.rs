@@ -41,15 +41,15 @@ pub const TRAINS: usize = 24;
 
 // ---- answers
 
-/// An answer other than done: load's of a file, 1 to 10, or a call's, 11 to 21. The place is 0 unless load names one.
+/// An answer other than done: load's of a file, 1 to 10, or a call's, from 11 on. The place is 0 unless load names one.
 #[derive(Clone, Copy, PartialEq, Eq, Debug)]
 pub struct Refusal {
     pub number: u8,
     pub place: u16,
 }
 
-/// Document 01's words for the answers, by number.
-const WORDS: [&str; 22] = [
+/// The words for the answers, by number: document 01's, and for 22 ours.
+const WORDS: [&str; 23] = [
     "done",
     "size",
     "damaged",
@@ -72,10 +72,11 @@ const WORDS: [&str; 22] = [
     "too fast",
     "no exit",
     "wishes",
+    "buffer",
 ];
 
 impl Refusal {
-    /// Document 01's word for it.
+    /// The word for it.
     pub fn word(&self) -> &'static str {
         WORDS.get(usize::from(self.number)).copied().unwrap_or("no such answer")
     }
@@ -256,6 +257,13 @@ impl Area {
     pub fn report(&self) -> Result<Report, Refusal> {
         let (number, allocated, free) = self.report_numbers();
         answer(number, 0).map(|()| Report { allocated, free })
+    }
+
+    /// Writes the tables into a buffer as an area file; trains are not written. An area that `start` made gives the file that it was made
+    /// of, byte for byte. A buffer that has not [`FILE_SIZE`] bytes is refused with 22; after a refusal it is as it was.
+    pub fn write(&self, buffer: &mut [u8]) -> Result<(), Refusal> {
+        // SAFETY: the record is lent by `&`, the buffer is a slice by `&mut`.
+        answer(unsafe { rbu_write(&self.record, buffer.as_mut_ptr(), buffer.len()) }, 0)
     }
 
     /// Every condition of a sound record is met, as in any area that was started and handed on.

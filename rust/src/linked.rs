@@ -18,6 +18,7 @@ extern "C" {
     pub fn rbu_position(area: *mut Record) -> u8;
     pub fn rbu_report(area: *const Record, allocated: *mut u8, free_segment: *mut u8) -> u8;
     pub fn rbu_is_sound(area: *const Record) -> bool;
+    pub fn rbu_write(area: *const Record, buffer: *mut u8, buffer_length: usize) -> u8;
     pub fn rbu_load(file: *const u8, file_length: usize, place: *mut u16) -> u8;
     pub fn rbu_view(file: *const u8, file_length: usize, route: u16, start: *mut u32, count: *mut u32);
     pub fn rbu_run_file(
@@ -50,6 +51,14 @@ extern "C" {
         state_length: usize,
         allocated: *mut u8,
         free_segment: *mut u8,
+    ) -> u8;
+    pub fn rbu_write_record(
+        file: *const u8,
+        file_length: usize,
+        state: *const u8,
+        state_length: usize,
+        buffer: *mut u8,
+        buffer_length: usize,
     ) -> u8;
     pub fn rbu_braking_distance(rate: u16, speed: u16) -> u32;
 }

@@ -1,4 +1,4 @@
--- Document 01's number and place for each case of an answer, and the answer of a number and a place.
+-- The papers' number and place for each case of an answer, and the answer of a number and a place.
 use Prim.Native.Nat.{ℕ}
 use lib.Dec.{eqb}
 use Rattle.lists.specs.Words.{if_then_else_}

@@ -1,4 +1,5 @@
 pub mod Sound
 pub mod SoundFacts
 pub mod Calls
+pub mod Write
 pub mod Examined

@@ -9,6 +9,7 @@ ghost use Rattle.steps.specs.Room.{Room};
 ghost use Rattle.answers.specs.Answers.{answerOf};
 ghost use Rattle.area.specs.Sound.{sound};
 ghost use Rattle.area.specs.Calls.{changeOf, enterCall, leaveCall, speedCall, requestCall, grantCall, positionCall, reported};
+ghost use Rattle.area.specs.Write.{writeAnswer, bufferAfter};
 ghost use Rattle.area.specs.declared.Area.{Area};
 ghost use Rattle.area.specs.Examined.{examinedOf, Parts};
 use answers::Answer;
@@ -538,5 +539,32 @@ impl Area {
             allocated: summary.allocated,
             free: summary.free,
         }
+    }
+    // Writes the tables as a file into a buffer. Trains are not written.
+    pub fn write(self, buffer: &mut [u8]) -> Answer
+        ensures { λ r. ⌜ r ≡ writeAnswer self (now (buffer .entry)) ⌝ }
+        ensures { λ _. ⌜ now (buffer .exit) ≡ bufferAfter self (now (buffer .entry)) ⌝ }
+    {
+        if !self.sound() {
+            return answers::answer_of(11, 0);
+        }
+        if buffer.len() != file::FILE_SIZE {
+            return answers::answer_of(22, 0);
+        }
+        encoding::write_tables(
+            self.tables.segments,
+            self.tables.routes,
+            self.tables.gmax,
+            self.tables.braking,
+            self.tables.margin,
+            &self.tables.lengths,
+            &self.tables.limits,
+            &self.tables.next,
+            &self.tables.previous,
+            &self.tables.flags,
+            &self.tables.routebytes,
+            buffer,
+        );
+        answers::answer_of(0, 0)
     }
 }

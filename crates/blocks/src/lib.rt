@@ -1,9 +1,10 @@
 // The blocks of an area file as parts of it, and what each block carries at its end.
 ghost use mathlib.Core.Path.{_≡_};
 ghost use Prim.Native.Nat.{_<_};
-ghost use lib.ListN.{length};
-ghost use Rattle.file.specs.Layout.{blockSize, fileSize, kindOf};
-ghost use Rattle.file.specs.Blocks.{block, intact, filed, blockMeets, firstBreaking, firstDamaged, firstMisfiled};
+ghost use mathlib.Core.List.{[], _∷_};
+ghost use lib.ListN.{length, take};
+ghost use Rattle.file.specs.Layout.{blockSize, fileSize, inTail, kindOf};
+ghost use Rattle.file.specs.Blocks.{block, sums, intact, filed, blockMeets, firstBreaking, firstDamaged, firstMisfiled};
 use octets::are_zeros;
 use octets::byte;
 
@@ -15,10 +16,10 @@ pub fn block_of(file: &[u8], k: usize) -> &[u8]
     &file[512 * k..512 * k + 512]
 }
 
-// The sums are kept whole and reduced once at the end: of fewer than 512 bytes neither can pass 32 bits.
-fn is_intact(block: &[u8]) -> bool
+// The check of a block. The sums are kept whole and reduced once at the end: of fewer than 512 bytes neither can pass 32 bits.
+pub fn check_of(block: &[u8]) -> [u8; 2]
     requires { ⌜ length (now block) ≡ blockSize ⌝ }
-    ensures { λ r. ⌜ r ≡ intact (now (block .entry)) ⌝ }
+    ensures { λ r. ⌜ r ≡ sums (take (inTail .check) (now (block .entry))) .first ∷ sums (take (inTail .check) (now (block .entry))) .second ∷ [] ⌝ }
 {
     let mut first: u32 = 0;
     let mut second: u32 = 0;
@@ -26,10 +27,19 @@ fn is_intact(block: &[u8]) -> bool
         first += block[i] as u32;
         second += first;
     }
-    (first % 255 == byte(block, 510) as u32) & (second % 255 == byte(block, 511) as u32)
+    [(first % 255) as u8, (second % 255) as u8]
 }
 
-fn kind_of(k: u8) -> u8
+fn is_intact(block: &[u8]) -> bool
+    requires { ⌜ length (now block) ≡ blockSize ⌝ }
+    ensures { λ r. ⌜ r ≡ intact (now (block .entry)) ⌝ }
+{
+    let check = check_of(block);
+    (check[0] == byte(block, 510)) & (check[1] == byte(block, 511))
+}
+
+// 1 header, 2 and 2 segments, 3 and 3 routes.
+pub fn kind_of(k: u8) -> u8
     ensures { λ r. ⌜ r ≡ kindOf k ⌝ }
 {
     if k == 0 {

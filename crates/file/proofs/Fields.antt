@@ -1,12 +1,13 @@
 -- The places and the rows of bytes agree: each field of a row is read back at its place.
-use Prim.Native.Nat.{ℕ, _+_, _-_, _≤_}
+use Prim.Native.Nat.{ℕ, _+_, _-_, _≤_, _<_}
 use mathlib.Core.Path.{_≡_, refl}
-use mathlib.Core.List.{List, _++_}
+use mathlib.Core.List.{List, [], _∷_, _++_, append-assoc}
+use native.Mathlib.Nat.{add-assoc}
 use native.Mathlib.Omega.{arith}
 use lib.ListN.{length, replicate, length-append, length-replicate}
 use lib.Seq.{getD-append-add}
 use Rattle.file.specs.Bytes.{byteAt, twoAt, fourAt, two, four}
-use Rattle.file.specs.Layout.{inTail, kindOf, tailBytes, blockBytes, version, inHeader, headerBytes, inSegment, segmentBytes}
+use Rattle.file.specs.Layout.{inTail, kindOf, blockBytes, version, inHeader, headerBytes, inSegment, segmentBytes}
 
 two-back : (n : ℕ) → twoAt (two n) 0 ≡ n
 two-back n = omega arith
@@ -35,14 +36,24 @@ pub segment-back :
 segment-back length′ limit next1 next2 previous1 previous2 flags rest =
     (four-back length′, two-back limit, refl, refl, refl, refl, refl, refl)
 
+-- bytes b that have a row r of w bytes at a start have its numbers there too
+module _ (b r : List ℕ) (start w : ℕ) (same : (i : ℕ) → i < w → byteAt b (start + i) ≡ byteAt r i) where
+  pub two-there : (i : ℕ) → i + 1 < w → twoAt b (start + i) ≡ twoAt r i
+  two-there i inside = rw (add-assoc start i 1, same i (omega arith), same (i + 1) inside)
+
+  pub four-there : (i : ℕ) → i + 3 < w → fourAt b (start + i) ≡ fourAt r i
+  four-there i inside = rw (add-assoc start i 2, two-there i (omega arith), two-there (i + 2) (omega arith))
+
 -- a byte of the tail, by its place in the block
 module _ (number : ℕ) (held : List ℕ) (first second : ℕ) (fits : length held ≤ inTail .kind) where
-  in-tail : (i : ℕ) → byteAt (blockBytes number held first second) (inTail .kind + i) ≡ byteAt (tailBytes number first second) i
+  abbrev tail : List ℕ
+  tail = kindOf number ∷ number ∷ replicate 12 0 ++ first ∷ second ∷ []
+
+  in-tail : (i : ℕ) → byteAt (blockBytes number held first second) (inTail .kind + i) ≡ byteAt tail i
   in-tail i =
       let pad : List ℕ = replicate (inTail .kind - length held) 0 in
-      let tail = tailBytes number first second in
       let long : length (held ++ pad) ≡ inTail .kind = simp (length-append, length-replicate) (omega arith) in
-      rw long at (getD-append-add (held ++ pad) tail i 0)
+      rw (append-assoc (held ++ pad) (kindOf number ∷ number ∷ replicate 12 0) (first ∷ second ∷ [])) (rw long at (getD-append-add (held ++ pad) tail i 0))
 
   -- THE CLAIM: kind, block number and check stand at their places in the tail of each block
   pub tail-back :

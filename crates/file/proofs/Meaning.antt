@@ -6,9 +6,9 @@ use mathlib.Core.List.{List}
 use native.Mathlib.Omega.{arith}
 use lib.ListN.{take}
 use lib.Dec.{eqb}
-use borrow.Author.Tests.{eqb-true}
+use borrow.Author.Tests.{eqb-true, eq-eqb}
 use Rattle.lists.proofs.Cases.{facts}
-use Rattle.lists.proofs.Loops.{every-at}
+use Rattle.lists.proofs.Loops.{every-at, every-all}
 use Rattle.file.specs.Bytes.{byteAt, zeros}
 use Rattle.file.specs.Layout.{inTail, kindOf}
 use Rattle.file.specs.Blocks.{sums, intact, filed}
@@ -20,6 +20,13 @@ zeros-means s first last h i low high =
     let e : first + (i + 1 - first) - 1 ≡ i = omega arith in
     let zero = every-at (λ (k : ℕ). eqb (byteAt s (first + k - 1)) 0) (last + 1 - first) h (i + 1 - first) (omega arith) (omega arith) in
     rw e at (eqb-true (byteAt s (first + (i + 1 - first) - 1)) 0 zero)
+
+-- and bytes that are zero one by one are zeros
+pub all-zeros : (s : List ℕ) (first last : ℕ) → ((i : ℕ) → first ≤ i → i ≤ last → byteAt s i ≡ 0) → zeros s first last ≡ true
+unfolding zeros
+all-zeros s first last zero-at =
+    every-all (λ (k : ℕ). eqb (byteAt s (first + k - 1)) 0) (last + 1 - first)
+    (λ k low high. eq-eqb (byteAt s (first + k - 1)) 0 (zero-at (first + k - 1) (omega arith) (omega arith)))
 
 module _ (b : List ℕ) where
   -- THE CLAIM: kind, block number and zeros of a block that is filed as block k

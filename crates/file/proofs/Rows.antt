@@ -1,7 +1,7 @@
 -- A row of bytes that is being put into a buffer, and rows put one after the other, which are one row.
 use Prim.Native.Nat.{ℕ, zero, suc, _+_, _-_, _≤_, _<_}
 use mathlib.Core.Path.{_≡_, refl, sym, ap, _∙_}
-use mathlib.Core.List.{List, [], _∷_, _++_}
+use mathlib.Core.List.{List, [], _∷_, _++_, append-nil}
 use native.Mathlib.Nat.{suc-add, zero-add}
 use native.Mathlib.Numerals.{add-one}
 use native.Mathlib.Omega.{arith}
@@ -78,3 +78,10 @@ put-next (suc at) r s [] = rw (put-past (suc at) r, put-past (suc at + length r)
 put-next (suc at) r s (y ∷ old) =
     rw (put-after at y r old, suc-add at (length r), put-after (at + length r) y s (putAt at r old), put-after at y (r ++ s) old)
     (ap (λ (l : List ℕ). y ∷ l) (put-next at r s old))
+
+-- a row put over one of the same length
+pub put-over : (row old : List ℕ) → length row ≡ length old → putAt 0 row old ≡ row
+unfolding putAt
+put-over row old same =
+    let past : length old ≤ 0 + length row = omega arith in
+    rw (take-all (length old - 0) row (omega arith), drop-of-length-le old past) (append-nil row)

@@ -7,7 +7,7 @@ use lib.Dec.{eqb, ltb}
 use Rattle.lists.specs.Words.{if_then_else_, firstFailing}
 use Rattle.file.specs.Bytes.{byteAt, zeros}
 pub use Rattle.file.specs.Layout.{blocks, blockSize, fileSize}
-use Rattle.file.specs.Layout.{firstRouteBlock, inTail, kindOf, routeZeros}
+use Rattle.file.specs.Layout.{firstRouteBlock, inTail, kindOf, coveredBytes, blockBytes, routeZeros}
 
 -- the block of a number, 0 to 4
 unfoldable pub block : List ℕ → ℕ → List ℕ
@@ -23,6 +23,10 @@ addByte s b = record { first = (s .first + b) % 255; second = (s .second + (s .f
 
 unfoldable pub sums : List ℕ → Sums
 sums s = foldl addByte (record { first = 0; second = 0 }) s
+
+-- the block of a number that holds these bytes, with its check
+unfoldable pub blockOf : (number : ℕ) (held : List ℕ) → List ℕ
+blockOf number held = blockBytes number held (sums (coveredBytes number held) .first) (sums (coveredBytes number held) .second)
 
 -- the sums of the bytes before the check are those stored in its two
 unfoldable pub intact : List ℕ → Bool

@@ -18,7 +18,7 @@ twoAt s i = byteAt s i + 256 * byteAt s (i + 1)
 abbrev pub fourAt : List ℕ → ℕ → ℕ
 fourAt s i = twoAt s i + 65536 * twoAt s (i + 2)
 
--- a number as two bytes and as four, the least first
+-- a number below 65,536 as two bytes, and one below 2³² as four, the least first
 abbrev pub two : ℕ → List ℕ
 two n = n % 256 ∷ n / 256 ∷ []
 
@@ -29,7 +29,7 @@ four n = two (n % 65536) ++ two (n / 65536)
 unfoldable pub zeros : List ℕ → ℕ → ℕ → Bool
 zeros s first last = every (last + 1 - first) (λ (k : ℕ). eqb (byteAt s (first + k - 1)) 0)
 
--- a row of bytes put into a buffer from a place on, as far as that has room; its other bytes are as they were
+-- a row of bytes put into a buffer from a place on, as far as the buffer has room; its other bytes are as they were
 unfoldable pub putAt : (at : ℕ) (row old : List ℕ) → List ℕ
 putAt at row old = take at old ++ take (length old - at) row ++ drop (at + length row) old
 

@@ -43,12 +43,13 @@ inTail = record { bodyLast = 495; kind = 496; number = 497; zeros = 498; zerosLa
 unfoldable pub kindOf : ℕ → ℕ
 kindOf k = if eqb k headerBlock then 1 else (if ltb k firstRouteBlock then 2 else 3)
 
-abbrev pub tailBytes : (number first second : ℕ) → List ℕ
-tailBytes number first second = kindOf number ∷ number ∷ replicate 12 0 ++ first ∷ second ∷ []
+-- what the check of a block covers, 510 bytes: what the block holds, at most 496 of them, zeros up to the tail, kind, block number, zeros
+abbrev pub coveredBytes : (number : ℕ) (held : List ℕ) → List ℕ
+coveredBytes number held = held ++ replicate (inTail .kind - length held) 0 ++ kindOf number ∷ number ∷ replicate (inTail .zerosLast + 1 - inTail .zeros) 0
 
--- a block: what it holds, zeros up to the tail, the tail with the two sums of its check
+-- a block: this, and the two sums of its check
 abbrev pub blockBytes : (number : ℕ) (held : List ℕ) (first second : ℕ) → List ℕ
-blockBytes number held first second = held ++ replicate (inTail .kind - length held) 0 ++ tailBytes number first second
+blockBytes number held first second = coveredBytes number held ++ first ∷ second ∷ []
 
 -- the header: version, segments, routes, a zero, `gmax`, `b`, `d`, zeros up to the tail
 pub record HeaderPlaces : Type 0 where
@@ -67,15 +68,19 @@ inHeader = record { version = 0; segments = 1; routes = 2; zero = 3; gmax = 4; b
 abbrev pub version : ℕ
 version = 1
 
+-- what it holds before the zeros
 abbrev pub headerBytes : (segments routes gmax b d : ℕ) → List ℕ
 headerBytes segments routes gmax b d = version ∷ segments ∷ routes ∷ 0 ∷ two gmax ++ two b ++ four d
 
 -- segment records, 16 bytes, 31 a block: the block of record s, and where it starts there
+abbrev pub segmentsInBlock : ℕ
+segmentsInBlock = 31
+
 abbrev pub segmentBlockOf : ℕ → ℕ
-segmentBlockOf s = firstSegmentBlock + (s - 1) / 31
+segmentBlockOf s = firstSegmentBlock + (s - 1) / segmentsInBlock
 
 abbrev pub segmentStart : ℕ → ℕ
-segmentStart s = 16 * ((s - 1) % 31)
+segmentStart s = 16 * ((s - 1) % segmentsInBlock)
 
 -- a segment record: length, limit, two next links, two previous links, flags, five zeros
 pub record SegmentPlaces : Type 0 where
@@ -92,18 +97,21 @@ inSegment = record { length = 0; limit = 4; next = 6; previous = 8; flags = 10; 
 
 abbrev pub segmentBytes : (length limit next1 next2 previous1 previous2 flags : ℕ) → List ℕ
 segmentBytes length limit next1 next2 previous1 previous2 flags =
-    four length ++ two limit ++ next1 ∷ next2 ∷ previous1 ∷ previous2 ∷ flags ∷ replicate 5 0
+    four length ++ two limit ++ next1 ∷ next2 ∷ previous1 ∷ previous2 ∷ flags ∷ replicate (inSegment .zerosLast + 1 - inSegment .zeros) 0
 
 -- route records, 32 bytes, 15 a block: the block of record r, and where it starts there; after the records, zeros up to the tail
+abbrev pub routesInBlock : ℕ
+routesInBlock = 15
+
 abbrev pub routeBlockOf : ℕ → ℕ
-routeBlockOf r = firstRouteBlock + (r - 1) / 15
+routeBlockOf r = firstRouteBlock + (r - 1) / routesInBlock
 
 abbrev pub routeStart : ℕ → ℕ
-routeStart r = 32 * ((r - 1) % 15)
+routeStart r = 32 * ((r - 1) % routesInBlock)
 
 abbrev pub routeZeros : ℕ
-routeZeros = 480
+routeZeros = 32 * routesInBlock
 
--- a route record: the count, the segment numbers, rest zero
-abbrev pub routeBytes : (segments : List ℕ) → List ℕ
-routeBytes segments = length segments ∷ segments ++ replicate (31 - length segments) 0
+-- a route record: the count, then 31 bytes: the segment numbers, rest zero
+abbrev pub routeBytes : (count : ℕ) (numbers : List ℕ) → List ℕ
+routeBytes count numbers = count ∷ numbers

@@ -6,6 +6,7 @@ use native.Mathlib.Nat.{le-of-suc-le-suc, not-suc-le-zero}
 use native.Mathlib.Numerals.{add-one}
 use native.Mathlib.Omega.{arith}
 use lib.ListN.{length, getD, set, replicate, length-map, List·getD-eq-default}
+use lib.Seq.{ext-getD}
 use lib.Dec.{eqb, eqb·suc-suc}
 use borrow.Author.Tests.{ne-eqb}
 use mathlib.Core.Logic.{_⊎_, ⊎-elim}
@@ -183,3 +184,16 @@ pub made-beside :
     → m ≡ each f l → new ≡ each (λ (n : ℕ) (x : A). g n (nth b m n) x) l → new ≡ each (λ (n : ℕ) (x : A). g n (f n x) x) l
 made-beside {A} {B} {C} b f g l e h =
     h ∙ (ap (λ (k : List B). each (λ (n : ℕ) (x : A). g n (nth b k n) x) l) e ∙ each-beside b f g l)
+
+-- a list is made of its own entries
+pub table-back :
+    {A : Type 0} (none : A) (n : ℕ) (f : ℕ → A) (l : List A) → length l ≡ n → ((k : ℕ) → 1 ≤ k → k ≤ n → f k ≡ nth none l k)
+    → tabulate n f ≡ l
+table-back none n f l long entry =
+    ext-getD none (tabulate n f) l (length-tabulate n f ∙ sym long)
+    (λ i below.
+    let inside : i < n = rw (length-tabulate n f) at below in
+    sym (nth-index none (tabulate n f) i)
+    ∙ nth-tabulate none n f (i + 1) (omega arith) (omega arith)
+    ∙ entry (i + 1) (omega arith) (omega arith)
+    ∙ nth-index none l i)

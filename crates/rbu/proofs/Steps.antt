@@ -8,10 +8,10 @@ use lib.Dec.{T}
 use mir.Raw.{raw as rawTy}
 use mir.Syntax.{Name, Ty, Body as MirBody, Place, Rv as RValue, Opd as Operand, assign, call, seq}
 use mir.Val.{Val, WT, hasTy}
-use base.Logic.{SProp, ent, emp, wand, all as every, snd∗, exE, allE, apply∗, id⊢}
+use base.Logic.{emp, wand, all as every, allE, apply∗, id⊢}
 use base.Fml.{Lft, Share, ftrue, fat, flft, fobs, fauth, fbor, fobor, fshr-bor}
 use prog.Wp.{Heap, Env, Spot, Calls, Loops}
-use ghost.Atoms.{Atoms, sem}
+use ghost.Atoms.{Atoms}
 use contract.Monad.{fact}
 use contract.Lifetimes.{Lfts, Shares, toks}
 use types.Kit as Kit
@@ -32,7 +32,7 @@ use denote.Exit.{yes}
 use denote.Triple.End.{all}
 use denote.Triple.Statement.{Contract, Triple}
 use denote.Triple.Call.{calls-from}
-use denote.Triple.Clauses.{Ended, Clauses, closing, ensured, lasts}
+use denote.Triple.Clauses.{Ended, Clauses, Lasts, AtExit, atExit, lasts, closing}
 use denote.Triple.Spec.{tripleOf}
 use Rattle.area.specs.declared.Area.{Area}
 use Rattle.area.proofs.Area as Rec
@@ -51,17 +51,17 @@ record-tells = LL.tells Rec.the-type Rec′.the-laws
 pub record-makes : {M : Type 1} (𝓤 : URA M) (H : Heap 𝓤) (A : Atoms 𝓤) → Makes 𝓤 H A Rec.the-row (Is Rec.the-row)
 record-makes 𝓤 H A = LL.makes Rec.the-type Rec′.the-plain 𝓤 H A
 
--- ---- a call of a function whose parameters are ss and whose result is of the type R, of which it says Said
+-- ---- a call of a function whose parameters are ss and whose result is of the type R; of these, on entry and at exit, it says Said
 module _ {m : ℕ} (ss : List (Slot m)) (R : RattleType) where
   abbrev pub asked : Ended
   asked = record { signature = record { lifetimes = m; outlives = []; params = ss; result = plain (λ κs. R) }; kept = all yes ss }
 
   abbrev pub Says : Type 1
-  Says = (κs : Lfts m) → Denots (typesAt ss κs) → R .Denot → Type 0
+  Says = (κs : Lfts m) → Denots (typesAt ss κs) → R .Denot → AtExit asked κs → Type 0
 
 module _ {M : Type 1} (𝓤 : URA M) (H : Heap 𝓤) (A : Atoms 𝓤) {m : ℕ} (ss : List (Slot m)) (R : RattleType) (Said : Says ss R) where
   abbrev pub said : Clauses 𝓤 (asked ss R)
-  said κs a = record { ghost = Unit {0}; requires = λ _. emp 𝓤; ensures = λ _ r e. fact 𝓤 (Said κs a r) }
+  said κs a = record { ghost = Unit {0}; requires = λ _. emp 𝓤; ensures = λ _ r e. fact 𝓤 (Said κs a r e) }
 
   abbrev pub Callee : Contract 𝓤
   Callee = tripleOf 𝓤 H A (asked ss R .signature) (closing 𝓤 H A (asked ss R) said)
@@ -74,24 +74,25 @@ module _ {M : Type 1} (𝓤 : URA M) (H : Heap 𝓤) (A : Atoms 𝓤) {m : ℕ} 
     abbrev pub In : Item 𝓤
     In = (Tokens ⊛ ‵ (owns (typesAt ss κs) a vss)) ⊛ ‵ ftrue
 
-    abbrev pub Ensured : R .Denot → SProp 𝓤
-    Ensured r = ensured 𝓤 H A (asked ss R) said κs a tt r
+    -- what is had of the arguments when it returns, where ws are their last values, and what it says of them
+    abbrev pub Left : Lasts (asked ss R) κs a → Item 𝓤
+    Left ws = ‵ (lasts (asked ss R) κs a ws)
 
-    pub comes-out : (r : R .Denot) → ent 𝓤 (Ensured r) (fact 𝓤 (Said κs a r))
-    comes-out r = exE 𝓤 _ (λ ws. snd∗ 𝓤 (sem 𝓤 H A (lasts (asked ss R) κs a ws)) (fact 𝓤 (Said κs a r)))
+    abbrev pub SaidAt : R .Denot → Lasts (asked ss R) κs a → Type 0
+    SaidAt r ws = Said κs a r (atExit (asked ss R) κs a ws)
 
-    -- what the arguments own and the tokens are handed in; the tokens come back, with a result of which Said holds
+    -- what the arguments own and the tokens are handed in; the tokens come back, with a result and last values of which Said holds
     pub asks :
         {K : Type 0} {Γ : List (Item 𝓤)} → K → {E : Env 𝓤 H} {C : Calls 𝓤 H} {Λ : Loops 𝓤 H} {q : Kit.Post 𝓤 H} {k : Name} {xs : List Operand} {d : Place} {rest : MirBody}
         → FmC 𝓤 H (W .laws) C → Triple 𝓤 (C k) Callee → Opds K W (In ∷ Γ) E xs (flat (typesAt ss κs) vss)
-        → ((v : Val) (r : R .Denot) → Said κs a r → Is R r (v ∷ []) → Seq K W (Tokens ∷ Γ) (lands C Λ E d v rest q))
+        → ((v : Val) (r : R .Denot) (ws : Lasts (asked ss R) κs a) → SaidAt r ws → Is R r (v ∷ []) → Seq K W (Left ws ∷ Tokens ∷ Γ) (lands C Λ E d v rest q))
         → Seq K W (‵ (owns (typesAt ss κs) a vss) ∷ Tokens ∷ Γ) (runs C Λ E (seq (call k xs d) rest) q)
     asks t fm known os k =
         move t (1 ∷ 0 ∷ []) $ join t $ nothing t $ move t (1 ∷ 0 ∷ []) $ join t $
         calls-from t fm In (flat (typesAt ss κs) vss) (Callee .post ((κs, qs, tt, a, vss), tt)) (known ((κs, qs, tt, a, vss), tt)) os (λ v.
-        use1 W (later (some (λ (r : R .Denot). (Tokens ⊛ ‵ (R .own r (v ∷ []))) ⊛ raw (Ensured r)))) (id⊢ 𝓤 _) $ await t tt $ pick t (λ r.
-        split t $ move t (1 ∷ []) $ use1 W (raw (fact 𝓤 (Said κs a r))) (comes-out r) $ heard t (Said κs a r) (λ e. split t $ move t (1 ∷ []) $
-        facts t R (Is R) (shows 𝓤 H A R) r (v ∷ []) (λ is. k v r e is))))
+        use1 W (later (some (λ (r : R .Denot). (Tokens ⊛ ‵ (R .own r (v ∷ []))) ⊛ some (λ (ws : Lasts (asked ss R) κs a). Left ws ⊛ raw (fact 𝓤 (SaidAt r ws)))))) (id⊢ 𝓤 _) $ await t tt $ pick t (λ r.
+        split t $ move t (1 ∷ []) $ pick t (λ ws. split t $ move t (1 ∷ []) $ heard t (SaidAt r ws) (λ e. move t (1 ∷ []) $ split t $ move t (1 ∷ []) $
+        facts t R (Is R) (shows 𝓤 H A R) r (v ∷ []) (λ is. move t (1 ∷ 0 ∷ []) $ k v r ws e is)))))
 
 -- ---- a reference that is held, at the value h
 abbrev pub Held : {M : Type 1} {𝓤 : URA M} (R : RattleType) → Lft → Share → RefT (R .Denot) → R .Denot → List (Item 𝓤) → List (Item 𝓤)

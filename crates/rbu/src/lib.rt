@@ -15,6 +15,7 @@ ghost use Rattle.separation.specs.Claim.{Separated};
 ghost use Rattle.runs.specs.Ran.{ranOf, written, fileWorld, fileRanOf, fileWritten};
 ghost use Rattle.state.specs.State.{stateInto, recordOf};
 ghost use Rattle.kept.specs.Kept.{Started, Answered};
+ghost use Rattle.writing.specs.Writing.{Written};
 ghost use Rattle.rbu.specs.After.{areaAfter, stateAfter, Continues};
 use area::Area;
 
@@ -124,6 +125,15 @@ pub extern "C" fn rbu_is_sound(area: &Area) -> bool
     before.sound()
 }
 
+// Writes the tables of the record as a file into a buffer: the number of the answer.
+#[no_mangle]
+pub extern "C" fn rbu_write(area: &Area, buffer: &mut [u8]) -> u8
+    ensures { λ r. ⌜ Written (now (area .entry)) (now (buffer .entry)) r (now (buffer .exit)) ⌝ }
+{
+    let before = *area;
+    writing::write(before, buffer)
+}
+
 // ---- files
 // The number of load's answer to a file; its place goes to `place`.
 #[no_mangle]
@@ -215,6 +225,13 @@ pub extern "C" fn rbu_report_record(
     *allocated = told.allocated;
     *free = told.free;
     told.number
+}
+
+#[no_mangle]
+pub extern "C" fn rbu_write_record(file: &[u8], state: &[u8], buffer: &mut [u8]) -> u8
+    ensures { λ r. ⌜ Written (recordOf (now (file .entry)) (now (state .entry))) (now (buffer .entry)) r (now (buffer .exit)) ⌝ }
+{
+    writing::write(state::record_of(file, state), buffer)
 }
 
 // ---- braking

@@ -24,7 +24,7 @@ noSegments = blockBytes 2 [] 4 54
 
 -- block 3: routes 1-3 and 2-3
 unfoldable pub routes : List ℕ
-routes = blockBytes 3 (routeBytes (1 ∷ 3 ∷ []) ++ routeBytes (2 ∷ 3 ∷ [])) 19 97
+routes = blockBytes 3 (routeBytes 2 (1 ∷ 3 ∷ replicate 29 0) ++ routeBytes 2 (2 ∷ 3 ∷ replicate 29 0)) 19 97
 
 -- block 4: no route
 unfoldable pub noRoutes : List ℕ

@@ -4,11 +4,12 @@ use Prim.Native.Nat.{ℕ, suc, _+_, _-_, _*_}
 use mathlib.Core.Path.{_≡_, refl, ap}
 use mathlib.Core.List.{List, [], _∷_, _++_, append-assoc}
 use native.Mathlib.Omega.{arith}
-use native.Mathlib.Nat.{add-assoc, add-suc, suc-add, zero-add}
+use native.Mathlib.Nat.{add-suc, suc-add, zero-add}
 use lib.ListN.{length, drop, length-append}
 use lib.Seq.{take-all, getD-append-add}
 use Rattle.lists.specs.Words.{tabulate}
 use Rattle.file.specs.Bytes.{byteAt, twoAt, fourAt, putAt}
+use Rattle.file.proofs.Fields.{two-there, four-there}
 use Rattle.trains.specs.declared.Train.{Train}
 use Rattle.trains.specs.Train.{mostTrains}
 use Rattle.area.specs.declared.Area.{Area}
@@ -27,10 +28,10 @@ module _ (p s : List ℕ) (at : ℕ) (long : length p ≡ at) where
   byte-after i = rw long at (getD-append-add p s i 0)
 
   two-after : (i : ℕ) → twoAt (p ++ s) (at + i) ≡ twoAt s i
-  two-after i = rw (add-assoc at i 1, byte-after i, byte-after (i + 1))
+  two-after i = two-there (p ++ s) s at (i + 2) (λ j inside. byte-after j) i (omega arith)
 
   four-after : (i : ℕ) → fourAt (p ++ s) (at + i) ≡ fourAt s i
-  four-after i = rw (add-assoc at i 2, two-after i, two-after (i + 2))
+  four-after i = four-there (p ++ s) s at (i + 4) (λ j inside. byte-after j) i (omega arith)
 
 -- train t, whose row stands at its start
 train-back : (p : List ℕ) (x : Train) (rest : List ℕ) (t : ℕ) → length p ≡ trainStart t → trainOf (p ++ (trainBytes x ++ rest)) t ≡ x

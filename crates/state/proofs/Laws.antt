@@ -1,7 +1,7 @@
 -- The rows of bytes of the state and of the trains, put one after the other, and the records that bytes spell.
 use Prim.Native.Nat.{ℕ, _+_, _-_, _*_, _≤_, _<_}
 use mathlib.Core.Path.{_≡_, refl, sym, _∙_}
-use mathlib.Core.List.{List, [], _∷_, append-nil}
+use mathlib.Core.List.{List, [], _∷_}
 use native.Mathlib.Omega.{arith}
 use lib.ListN.{length, getD, drop, replicate, length-append, drop-of-length-le}
 use lib.Seq.{drop-cons, take-all}
@@ -9,7 +9,7 @@ use native.Mathlib.Numerals.{add-one}
 use borrow.Author.Tests.{eq-eqb, ne-eqb}
 use Rattle.file.specs.Bytes.{two, four, putAt}
 use Rattle.file.specs.Layout.{fileSize}
-use Rattle.file.proofs.Rows.{put-nothing, put-next}
+use Rattle.file.proofs.Rows.{put-nothing, put-next, put-over}
 use Rattle.tables.specs.Tables.{blankTables}
 use Rattle.decoding.specs.Decoding.{decoded}
 use Rattle.trains.specs.declared.Train.{Train}
@@ -32,13 +32,6 @@ pub head-put :
     (due : ℕ) (allocations : List ℕ) → length allocations ≡ 62 → putAt 1 allocations (due ∷ replicate 63 0) ≡ headBytes due allocations
 unfolding putAt
 head-put due allocations long = rw (long, take-all 63 allocations (omega arith))
-
--- a row put over one of the same length
-put-over : (row old : List ℕ) → length row ≡ length old → putAt 0 row old ≡ row
-unfolding putAt
-put-over row old same =
-    let past : length old ≤ 0 + length row = omega arith in
-    rw (take-all (length old - 0) row (omega arith), drop-of-length-le old past) (append-nil row)
 
 -- the rows of the trains from index i on are left to put
 pub record Left (trains : List Train) (old : List ℕ) (i : ℕ) (new : List ℕ) : Type 0 where

@@ -1,4 +1,4 @@
-// What the programs print of an answer: its number, its place and document 01's word for it.
+// What the programs print of an answer: its number, its place and its word (docs/FORMATS.md).
 use libc::STDOUT_FILENO;
 
 // The trade's word for an answer.
@@ -25,7 +25,8 @@ fn say_word(number: u8) {
         18 => io::write_all(STDOUT_FILENO, b"taken\n"),
         19 => io::write_all(STDOUT_FILENO, b"too fast\n"),
         20 => io::write_all(STDOUT_FILENO, b"no exit\n"),
-        _ => io::write_all(STDOUT_FILENO, b"wishes\n"),
+        21 => io::write_all(STDOUT_FILENO, b"wishes\n"),
+        _ => io::write_all(STDOUT_FILENO, b"buffer\n"),
     }
     ;
 }

@@ -1,0 +1,5 @@
+pub mod Held
+pub mod Back
+pub mod Same
+pub mod Writing
+pub mod Told
