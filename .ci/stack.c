@@ -156,7 +156,7 @@ static struct {
     [POSITION] = ROW(rbu_position, position, CALL),
     [REPORT] = ROW(rbu_report, report, CALL),
     [IS_SOUND] = ROW(rbu_is_sound, is_sound, CALL),
-    [WRITE] = ROW(rbu_write, write_area, CALL),
+    [WRITE] = ROW(rbu_write, write_area, WRITE),
     [LOAD] = ROW(rbu_load, load, LOAD),
     [VIEW] = ROW(rbu_view, view, VIEW),
     [RUN_FILE] = ROW(rbu_run_file, run_file, RUN_FILE),

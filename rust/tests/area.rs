@@ -48,6 +48,21 @@ fn document_01s_listing() {
 }
 
 #[test]
+fn the_file_again() {
+    for cycles in 0..=6 {
+        let area = area_a(cycles);
+        let mut buffer = [0xa5; FILE_SIZE];
+        assert_eq!((area.write(&mut buffer), &buffer), (Ok(()), AREA_A));
+        for size in [0, 1, FILE_SIZE - 1, FILE_SIZE + 1] {
+            let mut buffer = vec![0xa5; size];
+            assert_eq!((area.write(&mut buffer), &buffer), (refusal(22, 0), &vec![0xa5; size]));
+        }
+    }
+    let mut buffer = [0xa5; FILE_SIZE];
+    assert_eq!((Area::of_record(Record::BLANK).write(&mut buffer), buffer), (refusal(11, 0), [0xa5; FILE_SIZE]));
+}
+
+#[test]
 fn what_a_record_holds() {
     let area = area_a(6);
     let tables = area.tables();
@@ -112,7 +127,10 @@ fn refused_files() {
 #[test]
 fn words() {
     let word = |number| Refusal { number, place: 0 }.word();
-    assert_eq!((word(0), word(11), word(16), word(21), word(22)), ("done", "unsound", "route number", "wishes", "no such answer"));
+    assert_eq!(
+        (word(0), word(11), word(16), word(21), word(22), word(23)),
+        ("done", "unsound", "route number", "wishes", "buffer", "no such answer")
+    );
     let wrong: Box<dyn std::error::Error> = Box::new(Refusal { number: 6, place: 62 });
     assert_eq!(wrong.to_string(), "6 62 segment");
 }
