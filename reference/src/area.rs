@@ -6,6 +6,7 @@
 use crate::file::{read, Refusal};
 use crate::numbers::{SEGMENTS, TRAINS, WISHES};
 use crate::record::{sound, RawTrain, Record, GRANT, POSITION, REQUEST, SPEED};
+use crate::send::send;
 use crate::tables::{Tables, ENTRY, EXIT};
 
 /// A train on the area.
@@ -294,6 +295,12 @@ impl Area {
         }
         let (count, least_free) = self.counts();
         (0, count, least_free)
+    }
+
+    /// R-1 of document 02: the tables sent back out as a file into a buffer, "22 .. after 11".
+    pub fn send(&self, buffer: &mut [u8]) -> u8 {
+        // 11 is tested there on the whole record
+        send(&self.record(), buffer)
     }
 
     /// The two numbers of a report that is not refused.

@@ -1,10 +1,10 @@
 //! One radio block area: segments, routes, trains.
 //!
-//! A second program, written from document 01 and, in `demand3`, from the words of demand 3 that it names, and from nothing else; to be
-//! read beside it. Sentences of the paper stand in quotation marks. Where the paper leaves something open, a comment begins with
-//! `reading:`.
+//! A second program, written from document 01, in `demand3` also from the words of demand 3 that it names, and in `send` from request R-1
+//! of document 02, and from nothing else; to be read beside them. Sentences of the papers stand in quotation marks. Where a paper leaves
+//! something open, a comment begins with `reading:`.
 
-// The modules in the paper's order.
+// The modules in the order of document 01, then of document 02.
 
 // the paper's numbers, each named once
 pub mod numbers;
@@ -30,10 +30,13 @@ pub mod record;
 // Whole runs
 pub mod demand3;
 
+// R-1 of document 02, refusals 11 and 22
+pub mod send;
+
 // a writer of files for tests, and Area A
 pub mod write;
 
-// the binary script and the state as bytes, random areas, lists and records, and the core's record: not of the paper
+// the binary script and the state as bytes, random areas, lists and records, and the core's record: not of the papers
 pub mod breaks;
 pub mod edges;
 #[cfg(feature = "rbu")]
@@ -48,6 +51,7 @@ pub use demand3::Demand3;
 pub use file::{check, decode_tables, read, Refusal};
 pub use numbers::*;
 pub use record::{sound, RawTrain, Record, GRANT, POSITION, REQUEST, SPEED};
+pub use send::{file_of, send};
 pub use state::{record_of, state_of};
 pub use tables::{Route, Segment, Tables, ENTRY, EXIT};
 pub use view::{route_view, route_view_start};

@@ -24,7 +24,7 @@ pub const LONGEST: u32 = 1_000_000;
 /// "Five blocks of 512 bytes"
 pub const BLOCKS: usize = 5;
 pub const BLOCK_SIZE: usize = 512;
-/// 1 size: "file not 2,560 bytes".
+/// 1 size: "file not 2,560 bytes"; 22 of document 02: "the buffer isn't 2,560 bytes".
 pub const FILE_SIZE: usize = 2560;
 
 // "Tail of each: byte 496 kind, 497 block number 0 to 4, 498 to 509 zero, 510 and 511 the check."

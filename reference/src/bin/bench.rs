@@ -1,7 +1,9 @@
 //! The core and the second program on the same inputs, in one process: microseconds each and the ratio core / second program. Then the
-//! core alone: a call on a record that is kept, and the same call inside a run.
-//! Both programs test the whole record at every call. In the replays the buffers for answers and state are not cleared between runs; for
-//! a single call the state, or the kept record, is copied anew before each run, with and without the call.
+//! core alone: a call on a record that is kept, and the same call inside a run. It ends with status 1 where a write of the core takes
+//! longer than the second program's, or a call on a kept record too much longer than inside a run.
+//! Both programs test the whole record at every call and at every write. In the replays and the writes the buffers, for answers and state
+//! or for the file, are not cleared between runs; for a single call the state, or the kept record, is copied anew before each run, with
+//! and without the call.
 use reference::kept::{call_kept, kept_of};
 use reference::script::{items_of, script_of};
 use reference::*;
@@ -10,6 +12,8 @@ use std::time::Instant;
 
 /// What a call on a kept record may take, as a part of the same call inside a run.
 const MOST_OF_A_RUN: f64 = 1.3;
+/// What a write of the core may take, as a part of the second program's.
+const MOST_OF_THE_SECOND: f64 = 1.0;
 
 /// The mean of so many turns, in microseconds.
 fn round<R>(turns: u32, run: &mut impl FnMut() -> R) -> f64 {
@@ -46,6 +50,20 @@ fn line(what: &str, core: f64, second: f64) {
 fn loads(name: &str, file: &[u8]) {
     let (core, second) = time(2000, || rbu::bytes::load(black_box(file)), || load(black_box(file)).is_ok());
     line(&format!("load, {name}"), core, second);
+}
+
+/// The file sent back out of a running area, by the core from the record that it keeps: core / second program.
+fn writes(name: &str, description: &Description, trains: u16) -> f64 {
+    let file = description.file();
+    let area = running(&file, trains);
+    let kept = rbu::Area::of_record(kept_of(&area.record()));
+    let (mut by_core, mut by_second) = ([0; FILE_SIZE], [0; FILE_SIZE]);
+    let core_run = || black_box(&kept).write(black_box(&mut by_core));
+    let second_run = || black_box(&area).send(black_box(&mut by_second));
+    let (core, second) = time(2000, core_run, second_run);
+    assert!(by_core[..] == file && by_second[..] == file, "write, {name}: both wrote the file");
+    line(&format!("write, {name}"), core, second);
+    core / second
 }
 
 /// A call's times: inside a run of the core, on a record that the core keeps, and with the second program.
@@ -92,6 +110,16 @@ fn one_call(name: String, file: &[u8], area: &Area, call: &Call) -> Times {
     Times { name, core: middle(cores), kept: middle(kepts), second: middle(seconds) }
 }
 
+/// The area of a file with so many trains on, far enough that trains ask and are granted.
+fn running(file: &[u8], trains: u16) -> Area {
+    let mut area = load(file).expect("the area is accepted");
+    (1..=trains).for_each(|t| assert_eq!(area.enter(t, t, 200), 0));
+    for _ in 0..15 {
+        AREA_A_CYCLE.iter().for_each(|call| assert_eq!(area.call(call), 0));
+    }
+    area
+}
+
 /// The area with a train standing at the start of its route's last segment.
 fn at_the_last(area: &Area, number: u8) -> Area {
     let mut record = area.record();
@@ -106,12 +134,7 @@ fn at_the_last(area: &Area, number: u8) -> Area {
 /// and their mean.
 fn calls(name: &str, description: &Description, trains: u16) -> Vec<Times> {
     let file = description.file();
-    let mut area = load(&file).expect("the area is accepted");
-    (1..=trains).for_each(|t| assert_eq!(area.enter(t, t, 200), 0));
-    // far enough that trains ask and are granted
-    for _ in 0..15 {
-        AREA_A_CYCLE.iter().for_each(|call| assert_eq!(area.call(call), 0));
-    }
+    let mut area = running(&file, trains);
     let mut times = vec![];
     for (step, call) in ["speed", "request", "grant", "position"].into_iter().zip(&AREA_A_CYCLE) {
         times.push(one_call(format!("{step}, {name}"), &file, &area, call));
@@ -160,11 +183,12 @@ fn replay(name: &str, description: &Description, trains: u16) -> Times {
 
 fn main() {
     println!("the core and the second program on the same inputs; each of the single calls is answered done");
-    println!("in the replays the buffers are not cleared between runs;");
+    println!("in the replays and the writes the buffers are not cleared between runs;");
     println!("for a single call the state, or the kept record, is copied anew before each run, with and without the call");
     println!("{:40} {:>9} {:>9} {:>8}", "microseconds", "core", "second", "ratio");
     loads("Area A", &area_a().file());
     loads("full area", &full_area().file());
+    let writes = [writes("Area A", &area_a(), 2), writes("full area", &full_area(), TRAINS.into())];
     let mut times = calls("Area A", &area_a(), 2);
     times.extend(calls("full area", &full_area(), TRAINS.into()));
     times.push(replay("Area A", &area_a(), 2));
@@ -173,8 +197,15 @@ fn main() {
     println!("a call on a record that is kept, and the same call inside a run");
     println!("{:40} {:>9} {:>9} {:>8}", "microseconds", "kept", "in a run", "ratio");
     times.iter().for_each(|one| line(&one.name, one.kept, one.core));
-    if times.iter().any(|one| one.kept > MOST_OF_A_RUN * one.core) {
+    let slow_write = writes.iter().any(|&ratio| ratio > MOST_OF_THE_SECOND);
+    if slow_write {
+        println!("bench: a write of the core takes over {MOST_OF_THE_SECOND:.1} of the second program's");
+    }
+    let slow_call = times.iter().any(|one| one.kept > MOST_OF_A_RUN * one.core);
+    if slow_call {
         println!("bench: a call on a kept record takes over {MOST_OF_A_RUN} of the same call inside a run");
+    }
+    if slow_write || slow_call {
         std::process::exit(1);
     }
 }

@@ -1,5 +1,5 @@
 //! Files: load's answer, the views of routes, and what a list and a start make of them.
-use crate::{counted, fail, kept, loaded, same, same_state};
+use crate::{counted, fail, kept, loaded, same, same_bytes};
 use reference::breaks::{from_rule, BREAKS, PLACES};
 use reference::random::{self, Random};
 use reference::script::script_of;
@@ -108,7 +108,7 @@ impl Seen<'_> {
         let run = rbu::bytes::run_file(file, &script, &mut answers, &mut state);
         same(self.seed, "a list from a refused file", run, (answer, 0));
         same(self.seed, "the answers after a refused file", answers, [99; 4]);
-        same_state(self.seed, "the state after a refused file", &state, &[99; STATE_SIZE]);
+        same_bytes(self.seed, "the state after a refused file", &state, &[99; STATE_SIZE]);
         self.kept.refused_start(file, answer);
     }
 

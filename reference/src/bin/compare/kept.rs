@@ -1,5 +1,6 @@
 //! The core on a record that is kept between calls: what every start and every call leaves there, field by field, its soundness and its
-//! report. The files, the lists and the records tell it theirs.
+//! report. The files, the lists and the records tell it theirs, and it tells them on to what is sent back out.
+use crate::sent::{self, Source};
 use crate::{counted, differ, fail, same, Answers};
 use reference::kept::{call_kept, kept_of, record_of_kept, tables_of, trains_of};
 use reference::random::Random;
@@ -14,6 +15,9 @@ const DAMAGED: u64 = 20_000;
 const RANDOM: u64 = 5_000;
 const UNSOUND_BY_ASKS: u64 = 5_000;
 
+/// One refused start in so many has its blank record sent back out.
+const BLANK_EACH: u64 = 16;
+
 /// The answers of calls: 1 to 10 are load's.
 const ANSWERS: [usize; 12] = [0, 11, 12, 13, 14, 15, 16, 17, 18, 19, 20, 21];
 
@@ -25,11 +29,14 @@ pub struct Seen {
     calls: u64,
     answers: Answers,
     records: u64,
-    /// of these records: some bytes of them overwritten, and still sound after it; all bytes random; unsound by a train's asking alone
+    /// of these records: some bytes of them overwritten, still sound after it, and that with other tables; all bytes random; unsound by
+    /// a train's asking alone
     damaged: u64,
     damaged_sound: u64,
+    damaged_tables: u64,
     random: u64,
     unsound_by_asks: u64,
+    sent: sent::Seen,
 }
 
 /// A kept record and what the second program has beside it. The tables change at a start and at no call, so they are laid out once.
@@ -99,18 +106,27 @@ impl Seen {
             records: 0,
             damaged: 0,
             damaged_sound: 0,
+            damaged_tables: 0,
             random: 0,
             unsound_by_asks: 0,
+            sent: sent::Seen::new(seed),
         }
     }
 
-    /// The start of an accepted file, over bytes that must not show.
+    /// The start of an accepted file, which is sent back out.
     pub fn start(&mut self, file: &[u8], second: &Record) -> Kept {
+        let kept = self.started(file, second);
+        self.sent.start(&kept.area, file, second);
+        self.starts += 1;
+        kept
+    }
+
+    /// A start over bytes that must not show.
+    fn started(&self, file: &[u8], second: &Record) -> Kept {
         let mut kept = Kept::of_bytes(&[0xa5; rbu::RECORD_SIZE]);
         same(self.seed, "a start", kept.area.restart_numbers(file), (0, 0));
         kept.tables = tables_of(&second.tables);
         kept.same_record(self.seed, "the record after a start", second);
-        self.starts += 1;
         kept
     }
 
@@ -129,6 +145,9 @@ impl Seen {
         }
         kept.same_report(self.seed, "the record after a refused start", (11, 0, 0));
         kept.same_soundness(self.seed, "the record after a refused start", false);
+        if self.refused_starts.is_multiple_of(BLANK_EACH) {
+            self.sent.blank(&kept.area);
+        }
         self.refused_starts += 1;
     }
 
@@ -146,6 +165,16 @@ impl Seen {
         kept.same_soundness(self.seed, &what, true);
         let (allocated, free) = area.counts();
         kept.same_report(self.seed, what, (0, allocated, free));
+    }
+
+    /// The record that calls on an accepted file have led to: the file comes out.
+    pub fn written_back(&mut self, what: impl Display, kept: &Kept, file: &[u8], record: &Record) {
+        self.sent.after_calls(what, &kept.area, file, record);
+    }
+
+    /// Any record sent back out. A file's bytes spell its tables; the right file is the one that comes out where it is sound.
+    pub fn written(&mut self, what: impl Display, kept: &Kept, file: &[u8], right: &[u8], record: &Record) {
+        self.sent.record(what, &Source { core: &kept.area, file, record, sound: sound(record), right });
     }
 
     /// Any record: its soundness, its report, and a call.
@@ -167,10 +196,20 @@ impl Seen {
         kept.tables = *kept.area.tables();
         let damaged = record_of_kept(kept.area.record());
         self.damaged += 1;
-        self.damaged_sound += u64::from(self.any("a record with bytes overwritten", &mut kept, &damaged, call));
+        let file = file_of(&damaged.tables);
+        self.written("a record with bytes overwritten", &kept, &file, &file, &damaged);
+        let is_sound = self.any("a record with bytes overwritten", &mut kept, &damaged, call);
+        self.damaged_sound += u64::from(is_sound);
+        if is_sound && damaged.tables != record.tables {
+            // "Loading that file gives those tables": here it is none that was loaded before
+            self.started(&file, &Record::loaded(damaged.tables));
+            self.damaged_tables += 1;
+        }
         if random.one_in(4) {
             let mut kept = Kept::of_bytes(&std::array::from_fn(|_| random.draw() as u8));
             let wild = record_of_kept(kept.area.record());
+            let file = file_of(&wild.tables);
+            self.written("a record of random bytes", &kept, &file, &file, &wild);
             self.any("a record of random bytes", &mut kept, &wild, call);
             self.random += 1;
         }
@@ -199,6 +238,8 @@ impl Seen {
         counted("kept: records with bytes overwritten, still sound", self.damaged_sound, 1);
         counted("kept: records of random bytes", self.random, RANDOM);
         counted("kept: unsound by asks", self.unsound_by_asks, UNSOUND_BY_ASKS);
+        self.sent.print();
+        counted("sent: sound records with bytes of the tables overwritten, written and loaded", self.damaged_tables, 1);
     }
 }
 

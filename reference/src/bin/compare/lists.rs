@@ -1,12 +1,14 @@
 //! Lists of calls: each answer and the state after each call, from the core's own record as bytes, on a record that it keeps, and from
-//! the file with the whole list; demand 3 on what the core hands back.
+//! the file with the whole list; demand 3 on what the core hands back; after some calls and at the end the file sent back out.
 use crate::kept::{self, Kept};
-use crate::{counted, fail, loaded, same, same_state, Answers};
+use crate::{counted, fail, loaded, same, same_bytes, Answers};
 use reference::random::{self, Owned, Random};
 use reference::script::{items_of, script_of};
 use reference::*;
 
 const CALLS: u64 = 2_000_000;
+/// After one call in so many of a list the file is sent back out.
+const SENT_EACH: usize = 100;
 
 /// The answers that a list can have: 1 to 10 are load's, and 11 never comes.
 const ANSWERS: [usize; 11] = [0, 12, 13, 14, 15, 16, 17, 18, 19, 20, 21];
@@ -54,6 +56,7 @@ pub fn compare(seed: u64, kept: &mut kept::Seen) {
             seen.note(&list.calls[list.calls.len() - 1], number, &before, &list.record);
         }
         list.whole();
+        kept.written_back("the record after a list", &list.kept, &list.file, &list.record);
         if random.one_in(8) && !list.calls.is_empty() {
             list.with_less_room(&mut random);
             seen.cut += 1;
@@ -154,7 +157,7 @@ impl List {
         let mut state = [99; STATE_SIZE];
         let ran = rbu::bytes::run_file(&file, &[], &mut [], &mut state);
         same(seed, "a list without calls", ran, ((0, 0), 0));
-        same_state(seed, "the state after load", &state, &state_of(&record));
+        same_bytes(seed, "the state after load", &state, &state_of(&record));
         let demand = Demand3::new(area.tables());
         let kept = kept.start(&file, &record);
         List { seed, which, file, area, record, demand, kept, calls: vec![], numbers: vec![], states: vec![state] }
@@ -170,9 +173,12 @@ impl List {
         let (mut answer, mut state) = ([99], self.states[self.calls.len()]);
         let ran = rbu::bytes::run_record(&self.file, &items_of(&owned.call()), &mut answer, &mut state);
         same(self.seed, format_args!("list {list}, call {call}, its answer"), (ran, answer[0]), (1, number));
-        same_state(self.seed, format_args!("list {list}, call {call}, the state after it"), &state, &state_of(&self.record));
+        same_bytes(self.seed, format_args!("list {list}, call {call}, the state after it"), &state, &state_of(&self.record));
         let what = format_args!("list {list}, call {call}");
         kept.call_of_list(what, &mut self.kept, &owned.call(), number, &self.area, &self.record);
+        if call.is_multiple_of(SENT_EACH) {
+            kept.written_back(what, &self.kept, &self.file, &self.record);
+        }
         let core = record_of(self.area.tables(), &state);
         if let Err(broken) = self.demand.tell(&owned.call(), answer[0], &core) {
             fail(format_args!("list {list}, call {call}: demand 3 is broken: {broken} (seed {})", self.seed));
@@ -197,7 +203,7 @@ impl List {
         same(self.seed, "the number of calls", ran, self.calls.len());
         same(self.seed, "the answers of a list", &answers[..ran], &self.numbers[..]);
         same(self.seed, "what the buffer has beyond the answers", &answers[ran..], &[99; 3][..]);
-        same_state(self.seed, "the state after a list", &state[..STATE_SIZE], &state_of(&self.record));
+        same_bytes(self.seed, "the state after a list", &state[..STATE_SIZE], &state_of(&self.record));
         same(self.seed, "what the buffer has beyond the state", &state[STATE_SIZE..], &[99; 5][..]);
         self.kept.same_report(self.seed, "the record after a list", self.area.report());
     }
@@ -211,7 +217,7 @@ impl List {
         let (_, ran) = rbu::bytes::run_file(&self.file, &self.script(), &mut answers, &mut state);
         same(self.seed, "the number of calls where there is less room", ran, room);
         same(self.seed, "the answers where there is less room", &answers[..], &self.numbers[..room]);
-        same_state(self.seed, "the state where there is less room", &state, &self.states[room][..size]);
+        same_bytes(self.seed, "the state where there is less room", &state, &self.states[room][..size]);
     }
 
     /// The list in two parts: the state that the first wrote, read back, continues the run. The buffer may be longer than a state.
@@ -226,7 +232,7 @@ impl List {
         let ran = rbu::bytes::run_record(&self.file, after, &mut answers[first..], &mut state);
         same(self.seed, "the number of calls of a second part", ran, self.calls.len() - first);
         same(self.seed, "the answers of a list in two parts", &answers, &self.numbers);
-        same_state(self.seed, "the state after a list in two parts", &state[..STATE_SIZE], &state_of(&self.record));
+        same_bytes(self.seed, "the state after a list in two parts", &state[..STATE_SIZE], &state_of(&self.record));
         same(self.seed, "what the buffer has beyond the state", &state[STATE_SIZE..], &vec![99; state.len() - STATE_SIZE][..]);
     }
 }

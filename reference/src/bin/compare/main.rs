@@ -1,6 +1,6 @@
-//! The core against the second program: braking, Area A's listing, files, lists of calls, records; each call by the functions over
-//! bytes and on a record that is kept. Seeded and repeatable; it prints counts, and ends with status 1 at the first difference and at
-//! a count that is too low.
+//! The core against the second program: braking, Area A's listing, files, lists of calls, records, and the file sent back out of them;
+//! each call by the functions over bytes and on a record that is kept. Seeded and repeatable; it prints counts, and ends with status 1 at
+//! the first difference and at a count that is too low.
 //!
 //!     compare             the whole comparison
 //!     compare SEED        the same with another seed
@@ -8,6 +8,7 @@ mod files;
 mod kept;
 mod lists;
 mod records;
+mod sent;
 
 use reference::script::script_of;
 use reference::*;
@@ -29,16 +30,17 @@ fn same<T: PartialEq + Debug>(seed: u64, what: impl Display, core: T, second: T)
     }
 }
 
-/// Two states, or as much of them as there is room for. The first byte that differs is named (docs/FORMATS.md).
-fn same_state(seed: u64, what: impl Display, core: &[u8], second: &[u8]) {
+/// Two states, or as much of them as there is room for, or two buffers for a file. The first byte that differs is named
+/// (docs/FORMATS.md).
+fn same_bytes(seed: u64, what: impl Display, core: &[u8], second: &[u8]) {
     same(seed, format_args!("{what}, its size"), core.len(), second.len());
     if let Some(at) = (0..core.len()).find(|&at| core[at] != second[at]) {
         differ(seed, format_args!("{what}, byte {at}"), core[at], second[at]);
     }
 }
 
-/// How often each answer was given, by its number, 0 to 21.
-type Answers = [u64; 22];
+/// How often each answer was given, by its number, 0 to 22.
+type Answers = [u64; 23];
 
 /// Prints a count; one below the least ends the comparison.
 fn counted(what: impl Display, count: impl Into<u64>, least: u64) {
@@ -69,7 +71,8 @@ fn listing(seed: u64, seen: &mut kept::Seen) {
         }
         let (mut answers, mut state) = ([99; 26], [99; STATE_SIZE]);
         rbu::bytes::run_file(&file, &script_of(&calls), &mut answers, &mut state);
-        same_state(seed, "the state after a cycle of Area A", &state, &state_of(&area.record()));
+        same_bytes(seed, "the state after a cycle of Area A", &state, &state_of(&area.record()));
+        seen.written_back("a cycle of Area A", &kept, &file, &area.record());
         let core = record_of(area.tables(), &state);
         // the entries are no cycle
         for (number, train) in (1..).zip(&core.trains[..2]).filter(|_| cycle > 0) {

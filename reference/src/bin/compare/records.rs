@@ -1,6 +1,7 @@
-//! Records that no run has reached: the sound test, the report, and a call with the record that it hands back, of the record as bytes
-//! and as one that is kept.
-use crate::{counted, fail, kept, loaded, same, same_state, Answers};
+//! Records that no run has reached: the sound test, the report, the file sent back out, and a call with the record that it hands back, of
+//! the record as bytes and as one that is kept.
+use crate::kept::{self, Kept};
+use crate::{counted, fail, loaded, same, same_bytes, Answers};
 use reference::breaks::{from_rule, PLACES};
 use reference::edges::{record_at, sound_record, EDGES};
 use reference::random::{self, Random};
@@ -8,6 +9,8 @@ use reference::script::items_of;
 use reference::*;
 
 const RECORDS: u32 = 200_000;
+/// One record in so many is sent back out.
+const SENT_EACH: u32 = 2;
 const SOUND: u64 = 20_000;
 const UNSOUND: u64 = 20_000;
 
@@ -46,16 +49,18 @@ pub fn compare(seed: u64, kept: &mut kept::Seen) {
     while seen.records < RECORDS {
         let lively = !random.one_in(4);
         let area = random::area(&mut random, lively);
-        let mut run = loaded(seed, &area.file());
+        let whole = area.file();
+        let mut run = loaded(seed, &whole);
         for _ in 0..random.within(0, 200) {
             let call = random::call(&mut random, &area, run.record().due);
             run.call(&call.call());
         }
         let reached = run.record();
+        kept.written_back("a record that a run has reached", &Kept::of(&reached), &whole, &reached);
         for _ in 0..20 {
             // the record just reached is no new one
             if let Some(made) = make(&mut random, &area, &reached).filter(|made| made.record != reached) {
-                seen.record(&mut random, &area, &made, kept);
+                seen.record(&mut random, &area, &whole, &made, kept);
             }
         }
         for _ in 0..4 {
@@ -67,7 +72,8 @@ pub fn compare(seed: u64, kept: &mut kept::Seen) {
 }
 
 impl Seen {
-    fn record(&mut self, random: &mut Random, area: &Description, made: &Made, kept: &mut kept::Seen) {
+    /// A record of an area. The area's whole file comes out where it is sound: none with other tables than the area's is.
+    fn record(&mut self, random: &mut Random, area: &Description, whole: &[u8], made: &Made, kept: &mut kept::Seen) {
         let Made { file, record, .. } = made;
         let what = match made.kind {
             Kind::Of(k) => KINDS[k],
@@ -87,8 +93,11 @@ impl Seen {
         let mut answer = [99];
         let ran = rbu::bytes::run_record(file, &items_of(&call.call()), &mut answer, &mut state);
         same(self.seed, format_args!("a call on a record ({what})"), (ran, answer[0]), (1, number));
-        same_state(self.seed, format_args!("the state after a call on a record ({what})"), &state, &state_of(&after));
+        same_bytes(self.seed, format_args!("the state after a call on a record ({what})"), &state, &state_of(&after));
         kept.record(format_args!("a record ({what})"), record, &call.call());
+        if self.records.is_multiple_of(SENT_EACH) {
+            kept.written(format_args!("a record ({what})"), &Kept::of(record), file, whole, record);
+        }
         self.records += 1;
         self.sound += u32::from(is_sound);
         self.answers[usize::from(number)] += 1;
