@@ -3,11 +3,11 @@
 //! "From a sound area record, write its tables as 2,560 bytes into a lent buffer; trains aren't written. Loading that file gives those
 //! tables, and an accepted file, loaded and written, comes out the same byte for byte."
 
-use crate::file::{check, route_start, segment_start, KINDS};
+use crate::file::{route_start, segment_start, KINDS};
 use crate::numbers::*;
 use crate::record::{sound, Record};
 use crate::tables::Tables;
-use crate::write::put;
+use crate::write::{put, put_checks};
 
 /// "Turned away: 22, the buffer isn't 2,560 bytes, after 11; either refusal leaves the buffer untouched." The answer's number.
 pub fn send(record: &Record, buffer: &mut [u8]) -> u8 {
@@ -59,12 +59,11 @@ fn put_file(file: &mut [u8], tables: &Tables) {
         record[0] = route.count;
         put(record, 1, &route.numbers);
     }
-    // "Tail of each: byte 496 kind, 497 block number 0 to 4, 498 to 509 zero, 510 and 511 the check." The check comes last, since it is
+    // "Tail of each: byte 496 kind, 497 block number 0 to 4, 498 to 509 zero, 510 and 511 the check." The checks come last, since each is
     // over all the bytes before it.
     for (number, block) in file.chunks_mut(BLOCK_SIZE).enumerate() {
         block[KIND_AT] = KINDS[number];
         block[BLOCK_NUMBER_AT] = number as u8;
-        let right = check(block);
-        put(block, CHECK_AT, &right);
     }
+    put_checks(file);
 }

@@ -259,8 +259,8 @@ impl Area {
         answer(number, 0).map(|()| Report { allocated, free })
     }
 
-    /// Writes the tables into a buffer as an area file; trains are not written. An area that `start` made gives the file that it was made
-    /// of, byte for byte. A buffer that has not [`FILE_SIZE`] bytes is refused with 22; after a refusal it is as it was.
+    /// Writes the tables into a buffer as an area file; trains are not written. An area gives the file that it was
+    /// last loaded from, byte for byte. A buffer that has not [`FILE_SIZE`] bytes is refused with 22; after a refusal it is as it was.
     pub fn write(&self, buffer: &mut [u8]) -> Result<(), Refusal> {
         // SAFETY: the record is lent by `&`, the buffer is a slice by `&mut`.
         answer(unsafe { rbu_write(&self.record, buffer.as_mut_ptr(), buffer.len()) }, 0)

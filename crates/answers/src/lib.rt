@@ -1,4 +1,4 @@
-// What a call answers: done, or a refusal with its number in document 01's table and the place that it names.
+// What a call answers: done, or a refusal with its number in the papers and the place that it names.
 ghost use mathlib.Core.Path.{_≡_};
 ghost use Rattle.answers.specs.Answers.{answerOf, numberOf, placeOf};
 
@@ -17,7 +17,7 @@ pub fn answer_of(number: u8, place: u16) -> Answer
     Answer::Refused { number, place }
 }
 
-// The number that an answer has in document 01's table, 0 for done.
+// The number that an answer has in the papers, 0 for done.
 pub fn number_of(answer: Answer) -> u8
     ensures { λ r. ⌜ r ≡ numberOf answer ⌝ }
 {

@@ -7,7 +7,7 @@ use native.Mathlib.Nat.{mul-suc, mul-zero, zero-add, not-suc-le-zero}
 use native.Mathlib.Omega.{arith}
 use lib.ListN.{length, take, drop, length-append, length-take, length-drop, List·getD-append}
 use lib.Seq.{ext-getD, getD-append-add, getD-take, getD-drop}
-use Rattle.lists.specs.Words.{at, tabulate}
+use Rattle.lists.specs.Words.{tabulate}
 use Rattle.lists.proofs.Numbered.{nth-in, nth-index, nth-tabulate, length-tabulate}
 use Rattle.file.specs.Bytes.{byteAt, putAt}
 use Rattle.file.proofs.Rows.{put-next}
@@ -62,7 +62,7 @@ module _ (routebytes : List ℕ) where
   route-long r = ap suc (length-tabulate 31 (segmentAt routebytes r))
 
   -- byte i of route record r
-  pub route-at : (r i : ℕ) → 1 ≤ r → i < 32 → byteAt (routeRecord routebytes r) i ≡ byteAt routebytes (32 * (r - 1) + i)
+  route-at : (r i : ℕ) → 1 ≤ r → i < 32 → byteAt (routeRecord routebytes r) i ≡ byteAt routebytes (32 * (r - 1) + i)
   unfolding countOf segmentAt
   route-at r zero some inside =
       nth-in 0 routebytes (32 * r - 31) (omega arith) ∙ ap (byteAt routebytes) (omega arith)

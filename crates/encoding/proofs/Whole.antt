@@ -29,19 +29,19 @@ module _ (b0 b1 b2 b3 b4 old : List ℕ) (l0 : length b0 ≡ blockSize) (l1 : le
 
 module _ (T : Tables) where
   -- the blocks
-  abbrev pub segments : (before : ℕ) → List ℕ
+  abbrev segments : (before : ℕ) → List ℕ
   segments before = segmentRecords (segmentOf T) before
 
-  abbrev pub routes : (before : ℕ) → List ℕ
+  abbrev routes : (before : ℕ) → List ℕ
   routes before = routeRecords (T .routebytes) before
 
-  pub long0 : length (blockOf 0 (headerOf T)) ≡ blockSize
+  long0 : length (blockOf 0 (headerOf T)) ≡ blockSize
   long0 = block-long 0 (headerOf T) (omega arith)
 
-  pub long-segments : (k before : ℕ) → length (blockOf k (segments before)) ≡ blockSize
+  long-segments : (k before : ℕ) → length (blockOf k (segments before)) ≡ blockSize
   long-segments k before = block-long k (segments before) (omega (arith, segments-long (segmentOf T) before))
 
-  pub long-routes : (k before : ℕ) → length (blockOf k (routes before)) ≡ blockSize
+  long-routes : (k before : ℕ) → length (blockOf k (routes before)) ≡ blockSize
   long-routes k before = block-long k (routes before) (omega (arith, routes-long (T .routebytes) before))
 
   -- THE CLAIM: a file that is written has 2,560 bytes

@@ -15,9 +15,8 @@ use Rattle.lists.proofs.Numbered.{nth-index, nth-replicate}
 use Rattle.file.specs.Bytes.{byteAt, zeros}
 use Rattle.file.specs.Layout.{inTail, kindOf, coveredBytes, firstRouteBlock, routeZeros}
 use Rattle.file.specs.Blocks.{blocks, blockSize, fileSize, block, sums, blockOf, intact, filed}
-use Rattle.file.proofs.Fields.{tail-back}
+use Rattle.file.proofs.Fields.{body, body-long, tail-back}
 use Rattle.file.proofs.Meaning.{all-zeros, filed-means, intact-means}
-use Rattle.file.proofs.Sealed.{body, body-long}
 
 -- zeros at the end change no byte, since a byte past the end is 0 too
 pub padded : (l : List ℕ) (n i : ℕ) → byteAt (l ++ replicate n 0) i ≡ byteAt l i
@@ -31,13 +30,13 @@ module _ (k : ℕ) (held : List ℕ) (fits : length held ≤ inTail .kind) where
   tail = kindOf k ∷ k ∷ replicate 12 0
 
   covered-long : length (coveredBytes k held) ≡ inTail .check
-  covered-long = length-append (body k held fits) tail ∙ rw (body-long k held fits)
+  covered-long = length-append (body held) tail ∙ rw (body-long held fits)
 
-  in-body : (i : ℕ) → i < inTail .kind → byteAt (coveredBytes k held) i ≡ byteAt held i
-  in-body i inside = List·getD-append (body k held fits) tail 0 i (rw (body-long k held fits) inside) ∙ padded held (inTail .kind - length held) i
+  covered-body : (i : ℕ) → i < inTail .kind → byteAt (coveredBytes k held) i ≡ byteAt held i
+  covered-body i inside = List·getD-append (body held) tail 0 i (rw (body-long held fits) inside) ∙ padded held (inTail .kind - length held) i
 
-  in-tail : (i : ℕ) → byteAt (coveredBytes k held) (inTail .kind + i) ≡ byteAt tail i
-  in-tail i = rw (body-long k held fits) at (getD-append-add (body k held fits) tail i 0)
+  covered-tail : (i : ℕ) → byteAt (coveredBytes k held) (inTail .kind + i) ≡ byteAt tail i
+  covered-tail i = rw (body-long held fits) at (getD-append-add (body held) tail i 0)
 
   in-covered : (i : ℕ) → i < inTail .check → byteAt (blockOf k held) i ≡ byteAt (coveredBytes k held) i
   unfolding blockOf
@@ -45,43 +44,41 @@ module _ (k : ℕ) (held : List ℕ) (fits : length held ≤ inTail .kind) where
 
   -- THE CLAIM: before its tail a block has the bytes that it holds, and zeros after them
   pub block-body : (i : ℕ) → i < inTail .kind → byteAt (blockOf k held) i ≡ byteAt held i
-  block-body i inside = in-covered i (omega arith) ∙ in-body i inside
+  block-body i inside = in-covered i (omega arith) ∙ covered-body i inside
 
   block-covers : take (inTail .check) (blockOf k held) ≡ coveredBytes k held
   unfolding blockOf
   block-covers = take-at (coveredBytes k held) _ (inTail .check) covered-long
 
-  -- the two sums are stored after what they cover
-  check-stored :
-      (byteAt (blockOf k held) (inTail .check) ≡ sums (coveredBytes k held) .first)
+  -- kind, number and the two sums stand in the tail
+  stored :
+      (byteAt (blockOf k held) (inTail .kind) ≡ kindOf k) × (byteAt (blockOf k held) (inTail .number) ≡ k)
+      × (byteAt (blockOf k held) (inTail .check) ≡ sums (coveredBytes k held) .first)
       × (byteAt (blockOf k held) (inTail .check + 1) ≡ sums (coveredBytes k held) .second)
   unfolding blockOf
-  check-stored =
-      let t = tail-back k held (sums (coveredBytes k held) .first) (sums (coveredBytes k held) .second) fits in (t .2, t .3)
+  stored = tail-back k held (sums (coveredBytes k held) .first) (sums (coveredBytes k held) .second) fits
 
   -- THE CLAIM: a block meets rule 2
   pub block-intact : intact (blockOf k held) ≡ true
   unfolding intact
-  block-intact = rw (block-covers, eq-eqb _ _ (sym (check-stored .0)), eq-eqb _ _ (sym (check-stored .1)))
+  block-intact = rw (block-covers, eq-eqb _ _ (sym (stored .2)), eq-eqb _ _ (sym (stored .3)))
 
   tail-zero : (i : ℕ) → inTail .zeros ≤ i → i ≤ inTail .zerosLast → byteAt (blockOf k held) i ≡ 0
   tail-zero i low high =
       let j = i - inTail .zeros in
       let e : i ≡ inTail .kind + suc (suc j) = omega arith in
-      in-covered i (omega arith) ∙ ap (byteAt (coveredBytes k held)) e ∙ in-tail (suc (suc j)) ∙ padded [] 12 j
+      in-covered i (omega arith) ∙ ap (byteAt (coveredBytes k held)) e ∙ covered-tail (suc (suc j)) ∙ padded [] 12 j
 
   -- THE CLAIM: and rule 3, where what a route block holds leaves room for the zeros before the tail
   pub block-filed : (firstRouteBlock ≤ k → length held ≤ routeZeros) → filed (blockOf k held) k ≡ true
   unfolding filed
   block-filed room =
       let b = blockOf k held in
-      let kind = in-covered (inTail .kind) (omega arith) ∙ in-tail 0 in
-      let number = in-covered (inTail .number) (omega arith) ∙ in-tail 1 in
       let rest = either-yes (ltb k firstRouteBlock) (zeros b routeZeros (inTail .bodyLast))
       (cases (lt-or-le k firstRouteBlock) (λ h. inl (lt-ltb k firstRouteBlock h))
       (λ h.
       inr (all-zeros b routeZeros (inTail .bodyLast) (λ i low high. block-body i (omega arith) ∙ List·getD-eq-default held 0 (omega (arith, room h)))))) in
-      rw (eq-eqb _ _ kind, eq-eqb _ _ number, all-zeros b (inTail .zeros) (inTail .zerosLast) tail-zero, rest)
+      rw (eq-eqb _ _ (stored .0), eq-eqb _ _ (stored .1), all-zeros b (inTail .zeros) (inTail .zerosLast) tail-zero, rest)
 
   -- bytes b with this body, filed as block k
   module _ (b : List ℕ) (long : length b ≡ blockSize) (same : (i : ℕ) → i < inTail .kind → byteAt b i ≡ byteAt held i) (f : filed b k ≡ true) where
@@ -96,10 +93,10 @@ module _ (k : ℕ) (held : List ℕ) (fits : length held ≤ inTail .kind) where
         ext-getD 0 (take (inTail .check) b) (coveredBytes k held) (l ∙ sym covered-long)
         (λ i below.
         getD-take (inTail .check) b i 0 (rw l at below)
-        ∙ cases (lt-or-le i (inTail .kind)) (λ h. same i h ∙ sym (in-body i h))
+        ∙ cases (lt-or-le i (inTail .kind)) (λ h. same i h ∙ sym (covered-body i h))
         (λ h.
         let e : i ≡ inTail .kind + (i - inTail .kind) = omega arith in
-        rw e (same-tail (i - inTail .kind) (omega arith) ∙ sym (in-tail (i - inTail .kind)))))
+        rw e (same-tail (i - inTail .kind) (omega arith) ∙ sym (covered-tail (i - inTail .kind)))))
 
     -- THE CLAIM: and intact, they are this block: the tail is that of block k, and the check that of the same bytes
     pub block-same : intact b ≡ true → b ≡ blockOf k held

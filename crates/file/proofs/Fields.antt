@@ -44,20 +44,26 @@ module _ (b r : List ℕ) (start w : ℕ) (same : (i : ℕ) → i < w → byteAt
   pub four-there : (i : ℕ) → i + 3 < w → fourAt b (start + i) ≡ fourAt r i
   four-there i inside = rw (add-assoc start i 2, two-there i (omega arith), two-there (i + 2) (omega arith))
 
+-- what stands before the tail of a block
+abbrev pub body : (held : List ℕ) → List ℕ
+body held = held ++ replicate (inTail .kind - length held) 0
+
+pub body-long : (held : List ℕ) → length held ≤ inTail .kind → length (body held) ≡ inTail .kind
+body-long held fits = simp (length-append, length-replicate) (omega arith)
+
 -- a byte of the tail, by its place in the block
 module _ (number : ℕ) (held : List ℕ) (first second : ℕ) (fits : length held ≤ inTail .kind) where
   abbrev tail : List ℕ
   tail = kindOf number ∷ number ∷ replicate 12 0 ++ first ∷ second ∷ []
 
-  in-tail : (i : ℕ) → byteAt (blockBytes number held first second) (inTail .kind + i) ≡ byteAt tail i
-  in-tail i =
-      let pad : List ℕ = replicate (inTail .kind - length held) 0 in
-      let long : length (held ++ pad) ≡ inTail .kind = simp (length-append, length-replicate) (omega arith) in
-      rw (append-assoc (held ++ pad) (kindOf number ∷ number ∷ replicate 12 0) (first ∷ second ∷ [])) (rw long at (getD-append-add (held ++ pad) tail i 0))
+  tail-byte : (i : ℕ) → byteAt (blockBytes number held first second) (inTail .kind + i) ≡ byteAt tail i
+  tail-byte i =
+      rw (append-assoc (body held) (kindOf number ∷ number ∷ replicate 12 0) (first ∷ second ∷ []))
+      (rw (body-long held fits) at (getD-append-add (body held) tail i 0))
 
   -- THE CLAIM: kind, block number and check stand at their places in the tail of each block
   pub tail-back :
       let s = blockBytes number held first second in
       (byteAt s (inTail .kind) ≡ kindOf number) × (byteAt s (inTail .number) ≡ number)
       × (byteAt s (inTail .check) ≡ first) × (byteAt s (inTail .check + 1) ≡ second)
-  tail-back = (in-tail 0, in-tail 1, in-tail 14, in-tail 15)
+  tail-back = (tail-byte 0, tail-byte 1, tail-byte 14, tail-byte 15)

@@ -1,5 +1,5 @@
 // The verdict on an area file, for the bureau: reads the file from standard input and writes one line, the answer's number,
-// its place and document 01's word for it, and for an accepted file a second line with its numbers of segments and routes.
+// its place and the word for it, and for an accepted file a second line with its numbers of segments and routes.
 use libc::STDOUT_FILENO;
 
 fn say_counts(segments: u8, routes: u8) {

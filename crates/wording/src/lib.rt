@@ -1,7 +1,7 @@
 // What the programs print of an answer: its number, its place and its word (docs/FORMATS.md).
 use libc::STDOUT_FILENO;
 
-// The trade's word for an answer.
+// The word for an answer.
 fn say_word(number: u8) {
     match number {
         0 => io::write_all(STDOUT_FILENO, b"done\n"),

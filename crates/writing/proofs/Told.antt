@@ -41,8 +41,8 @@ module _ (a : Area) (old : List ℕ) where
       (λ no. let e = rw no at done in absurd (omega arith))
 
   -- THE CLAIM: a write that answers and writes as its definitions say is one of which `Written` holds
-  pub written : Sized (a .tables) → {n : ℕ} {new : List ℕ} → n ≡ numberOf (writeAnswer a old) → new ≡ bufferAfter a old → Written a old n new
-  written sized number buffer =
+  pub write-told : Sized (a .tables) → {n : ℕ} {new : List ℕ} → n ≡ numberOf (writeAnswer a old) → new ≡ bufferAfter a old → Written a old n new
+  write-told sized number buffer =
       record {
         number = number;
         buffer = buffer;

@@ -61,7 +61,7 @@ module _ (T : Tables) where
       ap (byteAt b) e ∙ segment-there T s from to (i - start) (omega arith) ∙ record-zero (segmentOf T s) (i - start) (omega arith))
 
   -- the file of tables that meet rules 4 to 10 meets all ten
-  pub encoded-meets : Sized T → Meets T → MeetsRules (encoded T)
+  encoded-meets : Sized T → Meets T → MeetsRules (encoded T)
   encoded-meets long meets =
       record {
         size = encoded-long T;
@@ -86,7 +86,8 @@ encoded-loads T long meets =
 pub sound-loads : (a : Area) → Sized (a .tables) → sound a ≡ true → loaded (encoded (a .tables)) ≡ doneWith (a .tables)
 sound-loads a long s = encoded-loads (a .tables) long (sound-iff a .0 s .tables)
 
--- THE CLAIM: different tables have different files, whether they meet the rules or not, since each reads back
+-- THE CLAIM: different tables have different files, whether they meet the rules or not, since each reads back; what is asked is that their
+-- lists have the arrays' lengths
 pub one-to-one : (T U : Tables) → Sized T → Sized U → encoded T ≡ encoded U → T ≡ U
 one-to-one T U long long′ e = sym (decoded-encoded T long) ∙ ap decoded e ∙ decoded-encoded U long′
 

@@ -3,7 +3,7 @@ use mathlib.Core.Path.{ap, _∙_}
 use borrow.Author.Needs.{needs}
 use Rattle.answers.specs.Answers.{numberOf}
 use Rattle.writing.specs.Writing.{Sized}
-use Rattle.writing.proofs.Told.{written}
+use Rattle.writing.proofs.Told.{write-told}
 use Rattle.writing.proofs.write.Statement.{statement}
 use Rattle.writing.proofs.write.Tie as tie
 
@@ -22,7 +22,7 @@ returns : tie.Need-returns
 returns c =
     let w = c .before .before .before in
     let s = w .before .before .before in
-    written (s .args .area) _ (sized s) (c .number-of .ensures ∙ ap numberOf (w .write .ensures .0)) (w .write .ensures .1)
+    write-told (s .args .area) _ (sized s) (c .number-of .ensures ∙ ap numberOf (w .write .ensures .0)) (w .write .ensures .1)
 
 pub write-spec : {M : Type 1} → statement M
 write-spec = tie.close (tie.spec (λ c κs. search needs) (λ c κs. search needs) (λ c. search needs) returns)
