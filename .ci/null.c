@@ -130,7 +130,7 @@ static bool same_area(const struct rbu_area *a, const struct rbu_area *b) {
     for (int t = 0; t < RBU_TRAINS; t++) {
         const struct rbu_train *one = &a->trains[t], *other = &b->trains[t];
         if (one->route != other->route || one->place != other->place || one->position != other->position) return false;
-        if (one->speed != other->speed || one->asks != other->asks) return false;
+        if (one->speed != other->speed || one->asks != other->asks || one->count != other->count) return false;
     }
     return SAME(tables.segments) && SAME(tables.routes) && SAME(tables.gmax) && SAME(tables.braking) && SAME(tables.margin) &&
            SAME(tables.lengths) && SAME(tables.limits) && SAME(tables.next) && SAME(tables.previous) && SAME(tables.flags) &&

@@ -101,8 +101,8 @@ static void print_state(void) {
     for (int t = 1; t <= RBU_TRAINS; t++) {
         const struct rbu_train *train = &area.trains[t - 1];
         if (train->route == 0) continue;
-        printf("train %d route %u place %u position %lu speed %u asks %u\n", t, train->route, train->place,
-               (unsigned long)train->position, train->speed, train->asks);
+        printf("train %d route %u place %u position %lu speed %u asks %u count %u\n", t, train->route, train->place,
+               (unsigned long)train->position, train->speed, train->asks, train->count);
     }
     for (int s = 1; s <= RBU_SEGMENTS; s++) {
         if (area.allocations[s - 1] != 0) printf("allocation %d %u\n", s, area.allocations[s - 1]);

@@ -78,10 +78,12 @@ enum rbu_due { RBU_DUE_SPEED = 0, RBU_DUE_REQUEST = 1, RBU_DUE_GRANT = 2, RBU_DU
 // call: compare two records by their fields.
 
 // A train: route and place in it, counted from 1; route 0 is a train off, which is all zero. Position in its segment in decimetres,
-// speed in decimetres per cycle; asks is 1 between request and grant where it asks for its next segment, and 0 otherwise.
+// speed in decimetres per cycle; asks is 1 between request and grant where it asks for its next segment, and 0 otherwise. count is at
+// how many grant steps it has asked and got nothing since it last got a segment or entered, 65,535 at the most.
 struct rbu_train {
     uint8_t route;
     uint8_t place;
+    uint16_t count;
     uint32_t position;
     uint16_t speed;
     uint8_t asks;
@@ -155,7 +157,7 @@ uint8_t rbu_write(const struct rbu_area *area, uint8_t *buffer, size_t buffer_le
 // The stack that a call of each function takes, in bytes. No theorem bounds it: it is measured, on a painted stack, with lists of
 // thousands of calls and every answer among them. The figures have a quarter to spare; the tests measure it again and hold them to it
 // (.ci/stack.c). RBU_STACK_CALL is for each function of a running unit but rbu_start and rbu_write.
-#define RBU_STACK_START 13312
+#define RBU_STACK_START 14336
 #define RBU_STACK_CALL 7168
 #define RBU_STACK_WRITE 11264
 #define RBU_STACK_LOAD 11264

@@ -4,7 +4,7 @@
 //! place in the route and its position are worked out from the way and the summed lengths.
 
 use crate::file::{read, Refusal};
-use crate::numbers::{SEGMENTS, TRAINS, WISHES};
+use crate::numbers::{LAST_COUNT, SEGMENTS, TRAINS, WISHES};
 use crate::record::{sound, RawTrain, Record, GRANT, POSITION, REQUEST, SPEED};
 use crate::send::send;
 use crate::tables::{Tables, ENTRY, EXIT};
@@ -16,6 +16,7 @@ struct Train {
     way: u64,
     speed: u16,
     asks: bool,
+    count: u16,
 }
 
 /// What follows from a train's way: its place in the route (from 1), its position, its own
@@ -42,6 +43,12 @@ fn whereabouts(tables: &Tables, train: &Train) -> Option<Whereabouts> {
         start = end;
     }
     None
+}
+
+/// R-2 of document 02: "the highest count wins, and equal counts go to the higher train number". Of two trains, each with its count
+/// and its number: whether the one goes before the other.
+fn goes_before((count, number): (u16, u8), (other_count, other_number): (u16, u8)) -> bool {
+    count > other_count || (count == other_count && number > other_number)
 }
 
 /// A running area.
@@ -109,7 +116,8 @@ impl Area {
             raw.is_on().then(|| {
                 let passed = &tables.route(raw.route).listed()[..usize::from(raw.place) - 1];
                 let start: u64 = passed.iter().map(|&segment| u64::from(tables.segment(segment).length)).sum();
-                Train { route: raw.route, way: start + u64::from(raw.position), speed: raw.speed, asks: raw.asks == 1 }
+                let way = start + u64::from(raw.position);
+                Train { route: raw.route, way, speed: raw.speed, asks: raw.asks == 1, count: raw.count }
             })
         });
         Some(Area { tables, allocations: record.allocations, trains, due: record.due })
@@ -122,7 +130,7 @@ impl Area {
             Some(train) => {
                 // A way beyond the route's end would show as place 0, which is unsound.
                 let (place, position) = whereabouts(&self.tables, &train).map_or((0, 0), |at| (at.place, at.position));
-                RawTrain { route: train.route, place, position, speed: train.speed, asks: u8::from(train.asks) }
+                RawTrain { route: train.route, place, position, speed: train.speed, asks: u8::from(train.asks), count: train.count }
             }
         });
         Record { tables: self.tables, allocations: self.allocations, trains, due: self.due }
@@ -174,8 +182,8 @@ impl Area {
         if speed > self.tables.segment(first).limit {
             return 19;
         }
-        // "position 0 of the first segment, which becomes allocated"
-        self.trains[usize::from(train) - 1] = Some(Train { route, way: 0, speed, asks: false });
+        // "position 0 of the first segment, which becomes allocated"; R-2: "the count is 0 at enter"
+        self.trains[usize::from(train) - 1] = Some(Train { route, way: 0, speed, asks: false, count: 0 });
         self.allocate(first, train);
         0
     }
@@ -258,12 +266,38 @@ impl Area {
         if let Some(number) = self.turned_away(GRANT) {
             return number;
         }
-        // "each unallocated segment goes to the least train number asking for it; all asking
-        // ends": in the order of the numbers, the first to ask takes it.
-        self.each_train_on(|area, number, train, at| {
-            if let Some(next) = at.next.filter(|&next| train.asks && area.allocated(next) == 0) {
-                area.allocate(next, number);
+        // the trains that ask: what for, and by what they are ordered
+        let asking: Vec<(u8, (u16, u8))> = (1..)
+            .zip(&self.trains)
+            .filter_map(|(number, train)| {
+                let train = train.filter(|train| train.asks)?;
+                Some((self.whereabouts(&train).next?, (train.count, number)))
+            })
+            .collect();
+        // "each unallocated segment goes to" one of those asking for it: R-2 says to which, in place of the least number.
+        for segment in 1..=self.tables.n {
+            if self.allocated(segment) != 0 {
+                continue;
             }
+            let for_it = asking.iter().filter(|(next, _)| *next == segment).map(|(_, train)| *train);
+            if let Some((_, first)) = for_it.reduce(|first, other| if goes_before(other, first) { other } else { first }) {
+                self.allocate(segment, first);
+            }
+        }
+        // R-2: "Each train counts the grant steps at which it asked and got nothing; the count .. stops at 65,535 and returns to 0 on a
+        // grant."
+        // reading: got nothing, whether its segment was allocated before the step or went to another; a train that does not ask keeps its
+        // count.
+        self.each_train_on(|area, number, train, at| {
+            if !train.asks {
+                return;
+            }
+            if at.next.is_some_and(|next| area.allocated(next) == number) {
+                train.count = 0;
+            } else if train.count < LAST_COUNT {
+                train.count += 1;
+            }
+            // "all asking ends"
             train.asks = false;
         });
         self.due = POSITION;

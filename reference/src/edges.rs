@@ -2,10 +2,10 @@
 //! of "A sound record". An edge says by itself whether the record is sound there; the sound test is not asked.
 
 use crate::braking::{b_rest, s};
-use crate::numbers::{SEGMENTS, TRAINS};
-use crate::random::Random;
+use crate::numbers::{LAST_COUNT, SEGMENTS, TRAINS};
+use crate::random::{count, Random};
 use crate::record::{RawTrain, Record, GRANT, POSITION, REQUEST, SPEED};
-use crate::tables::{Segment, Tables};
+use crate::tables::{Segment, Tables, EXIT};
 
 /// An edge: the steps that may be due at it, whether a record there is sound, and the change that brings a sound record to it by
 /// this train, which is on; false where that cannot be.
@@ -18,7 +18,7 @@ pub struct Edge {
 
 // ---- sound records
 
-/// A sound record: trains anywhere on their routes, one at least.
+/// A sound record: trains anywhere on their routes with any counts, one at least.
 pub fn sound_record(random: &mut Random, tables: &Tables, due: u8) -> Record {
     let mut record = Record { due, ..Record::loaded(*tables) };
     let first = random.within(1, TRAINS.into()) as u8;
@@ -46,6 +46,15 @@ pub fn record_at(random: &mut Random, tables: &Tables, edge: &Edge) -> Option<Re
     })
 }
 
+/// A sound record in which a train with a count may leave, and its number; none where no train happens to be at its route's exit.
+pub fn leaving_record(random: &mut Random, tables: &Tables, due: u8) -> Option<(Record, u8)> {
+    let mut record = sound_record(random, tables, due);
+    let may_leave = |&number: &u8| next(&record, number).is_none() && own_segment(&record, number).flags & EXIT != 0;
+    let number = numbers(&record, true).into_iter().find(may_leave)?;
+    train(&mut record, number).count = count(random).max(1);
+    Some((record, number))
+}
+
 /// Tries a few places, since other trains have some.
 fn put_on_anywhere(random: &mut Random, record: &mut Record, number: u8) -> bool {
     (0..4).any(|_| {
@@ -64,7 +73,7 @@ fn put_on(random: &mut Random, record: &mut Record, number: u8, route: u8, place
     }
     record.allocations.iter_mut().filter(|train| **train == number).for_each(|train| *train = 0);
     allocate(record, own, number);
-    *train(record, number) = RawTrain { route, place, ..RawTrain::OFF };
+    *train(record, number) = RawTrain { route, place, count: count(random), ..RawTrain::OFF };
     if random.one_in(2) {
         hold_next(record, number);
     }
@@ -94,7 +103,7 @@ fn at_speed(random: &mut Random, record: &mut Record, number: u8, speed: u16) ->
 }
 
 /// A train's speed and position as they are told, and its asking as it has to be with them.
-fn go_to(record: &mut Record, number: u8, speed: u16, position: u64) -> bool {
+pub(crate) fn go_to(record: &mut Record, number: u8, speed: u16, position: u64) -> bool {
     let near = position >= u64::from(own_segment(record, number).length - record.tables.d);
     let could_ask = next(record, number).is_some() && held_next(record, number).is_none();
     let asks = record.due == GRANT && near && could_ask;
@@ -105,11 +114,11 @@ fn go_to(record: &mut Record, number: u8, speed: u16, position: u64) -> bool {
 
 // ---- what stands around a train
 
-fn train(record: &mut Record, number: u8) -> &mut RawTrain {
+pub(crate) fn train(record: &mut Record, number: u8) -> &mut RawTrain {
     &mut record.trains[usize::from(number) - 1]
 }
 
-fn allocate(record: &mut Record, segment: u8, number: u8) -> bool {
+pub(crate) fn allocate(record: &mut Record, segment: u8, number: u8) -> bool {
     record.allocations[usize::from(segment) - 1] = number;
     true
 }
@@ -123,7 +132,7 @@ fn own(record: &Record, number: u8) -> u8 {
     record.train(number).own(&record.tables)
 }
 
-fn own_segment(record: &Record, number: u8) -> Segment {
+pub(crate) fn own_segment(record: &Record, number: u8) -> Segment {
     *record.tables.segment(own(record, number))
 }
 
@@ -334,6 +343,13 @@ pub const EDGES: &[Edge] = &[
     Edge { name: "a train off that asks", due: ANY, sound: false, change: |r, x, _| off(r, x, |train| train.asks = 1) },
     Edge { name: "a train off with asks 2", due: ANY, sound: false, change: |r, x, _| off(r, x, |train| train.asks = 2) },
     Edge { name: "a train off with asks 255", due: ANY, sound: false, change: |r, x, _| off(r, x, |train| train.asks = 255) },
+    Edge { name: "a train off with a count", due: ANY, sound: false, change: |r, x, _| off(r, x, |train| train.count = 1) },
+    Edge { name: "a train off with count 256", due: ANY, sound: false, change: |r, x, _| off(r, x, |train| train.count = 256) },
+    Edge { name: "a train off with the greatest count", due: ANY, sound: false, change: |r, x, _| off(r, x, |train| train.count = LAST_COUNT) },
+    // of a train on no sentence speaks of the count
+    Edge { name: "a train on without a count", due: ANY, sound: true, change: |_, x, t| with(x, t, |train| train.count = 0) },
+    Edge { name: "a train on with a count", due: ANY, sound: true, change: |_, x, t| with(x, t, |train| train.count = 1) },
+    Edge { name: "a train on with the greatest count", due: ANY, sound: true, change: |_, x, t| with(x, t, |train| train.count = LAST_COUNT) },
     // "Every allocation is 0 or the number of a train on; above N it is 0."
     Edge { name: "a segment allocated to a train off", due: ANY, sound: false, change: one_more_to_one_off },
     Edge { name: "a segment allocated to train 25", due: ANY, sound: false, change: |r, x, t| one_more(r, x, t, TRAINS + 1) },

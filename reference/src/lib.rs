@@ -1,8 +1,8 @@
 //! One radio block area: segments, routes, trains.
 //!
-//! A second program, written from document 01, in `demand3` also from the words of demand 3 that it names, and in `send` from request R-1
-//! of document 02, and from nothing else; to be read beside them. Sentences of the papers stand in quotation marks. Where a paper leaves
-//! something open, a comment begins with `reading:`.
+//! A second program, written from document 01, in `demand3` also from the words of demand 3 that it names, in `send` from request R-1 of
+//! document 02 and in the grant step and the record from its request R-2, and from nothing else; to be read beside them. Sentences of the
+//! papers stand in quotation marks. Where a paper leaves something open, a comment begins with `reading:`.
 
 // The modules in the order of document 01, then of document 02.
 
@@ -18,13 +18,13 @@ pub mod tables;
 // The area file, refusals 1 to 10
 pub mod file;
 
-// The calls, refusals 11 to 21, and the report
+// The calls, refusals 11 to 21, and the report; the grant step with R-2 of document 02
 pub mod area;
 
 // the route view
 pub mod view;
 
-// the area record, and "A sound record"
+// the area record with R-2's count, and "A sound record"
 pub mod record;
 
 // Whole runs
@@ -41,6 +41,7 @@ pub mod breaks;
 pub mod edges;
 #[cfg(feature = "rbu")]
 pub mod kept;
+pub mod merges;
 pub mod random;
 pub mod script;
 pub mod state;
@@ -55,4 +56,4 @@ pub use send::{file_of, send};
 pub use state::{record_of, state_of};
 pub use tables::{Route, Segment, Tables, ENTRY, EXIT};
 pub use view::{route_view, route_view_start};
-pub use write::{area_a, full_area, put_checks, Description, AREA_A_CYCLE, AREA_A_ENTRIES};
+pub use write::{area_a, full_area, merging_area, put_checks, Description, AREA_A_CYCLE, AREA_A_ENTRIES};

@@ -18,6 +18,8 @@ pub const WISHES: usize = 24;
 pub const TOP_SPEED: u16 = 1000;
 /// "`d`, 1 to 1,000,000"; of a length: "over 1,000,000".
 pub const LONGEST: u32 = 1_000_000;
+/// A train's count, of document 02: "stops at 65,535".
+pub const LAST_COUNT: u16 = 65_535;
 
 // The area file
 

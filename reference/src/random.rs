@@ -2,10 +2,10 @@
 
 use crate::area::Call;
 use crate::braking::s;
-use crate::numbers::{LONGEST, ROUTES, ROUTE_SEGMENTS, SEGMENTS, TOP_SPEED, TRAINS, WISHES};
-use crate::record::{GRANT, POSITION, REQUEST, SPEED};
+use crate::numbers::{LAST_COUNT, LONGEST, ROUTES, ROUTE_SEGMENTS, SEGMENTS, TOP_SPEED, TRAINS, WISHES};
+use crate::record::{Record, GRANT, POSITION, REQUEST, SPEED};
 use crate::tables::{Segment, ENTRY, EXIT};
-use crate::write::Description;
+use crate::write::{links_ahead, Description, Links};
 
 pub struct Random(u64);
 
@@ -43,6 +43,24 @@ impl Random {
     pub fn of<'a, T>(&mut self, list: &'a [T]) -> &'a T {
         &list[self.draw() as usize % list.len()]
     }
+
+    /// A list in any order.
+    pub fn mixed<T>(&mut self, mut list: Vec<T>) -> Vec<T> {
+        for k in (1..list.len()).rev() {
+            list.swap(k, self.within(0, k as u64) as usize);
+        }
+        list
+    }
+}
+
+/// A train's count: any, and often one where its bytes, its sign or its end turn.
+pub fn count(random: &mut Random) -> u16 {
+    match random.draw() % 4 {
+        0 => 0,
+        1 => random.within(1, 9) as u16,
+        2 => *random.of(&[255, 256, 32_767, 32_768, LAST_COUNT - 1, LAST_COUNT]),
+        _ => random.draw() as u16,
+    }
 }
 
 /// `gmax`, `b` and `d` that leave room for lengths; `d` is S(gmax) exactly one time in two. `lively`: few cycles a segment.
@@ -60,7 +78,7 @@ fn speeds(random: &mut Random, lively: bool) -> (u16, u16, u32) {
 }
 
 /// Links that rise, two of each kind a segment at the most. One time in four a chain, with links over one segment: long routes.
-fn links(random: &mut Random, n: usize) -> (Vec<[u8; 2]>, Vec<[u8; 2]>) {
+fn links(random: &mut Random, n: usize) -> Links {
     let mut next = vec![[0u8; 2]; n];
     let mut previous = vec![[0u8; 2]; n];
     let mut link = |from: usize, to: usize| {
@@ -94,16 +112,47 @@ fn links(random: &mut Random, n: usize) -> (Vec<[u8; 2]>, Vec<[u8; 2]>) {
 pub fn area(random: &mut Random, lively: bool) -> Description {
     let (gmax, b, d) = speeds(random, lively);
     let n = random.edgy(1, SEGMENTS.into()) as usize;
-    let (next, previous) = links(random, n);
-    let shortest = u64::from(d) + u64::from(gmax) + 1;
-    let mut limits = vec![0u16; n];
-    for s in (0..n).rev() {
+    let links = links(random, n);
+    let limits = limits(random, gmax, b, &links.0);
+    let segments = segments(random, lively, gmax, d, &limits, links);
+    let routes = (0..random.edgy(1, ROUTES.into())).map(|_| route(random, &segments)).collect();
+    Description { gmax, b, d, segments, routes }
+}
+
+/// An area in which trains meet: each segment leads to the two after it, so that all but the first two are merges; it is lively, and has
+/// many routes.
+pub fn merges(random: &mut Random) -> Description {
+    let (gmax, b, d) = speeds(random, true);
+    let n = random.within(5, SEGMENTS.into()) as u8;
+    // none so low that trains creep; no two so far apart that the drop rule is broken
+    let lowest = (gmax - b).max(gmax.div_ceil(2));
+    let limits: Vec<u16> = (0..n).map(|_| random.edgy(lowest.into(), gmax.into()) as u16).collect();
+    let segments = segments(random, true, gmax, d, &limits, links_ahead(n));
+    let mut routes = vec![];
+    for _ in 0..ROUTES {
+        let first = random.within(1, u64::from(n) - 1) as u8;
+        let longest = random.within(2, ROUTE_SEGMENTS.into()) as usize;
+        routes.push(walk_on(random, &segments, vec![first], longest));
+    }
+    Description { gmax, b, d, segments, routes }
+}
+
+/// Limits that meet the drop rule.
+fn limits(random: &mut Random, gmax: u16, b: u16, next: &[[u8; 2]]) -> Vec<u16> {
+    let mut limits = vec![0u16; next.len()];
+    for s in (0..next.len()).rev() {
         let after = next[s].iter().filter(|&&link| link != 0).map(|&link| limits[usize::from(link) - 1] + b).min();
         let highest = after.unwrap_or(gmax).min(gmax);
         // the drop rule met with equality often
         limits[s] = if random.one_in(2) { highest } else { random.edgy(1, highest.into()) as u16 };
     }
-    let segments: Vec<Segment> = (0..n)
+    limits
+}
+
+/// Segments with these limits and links.
+fn segments(random: &mut Random, lively: bool, gmax: u16, d: u32, limits: &[u16], (next, previous): Links) -> Vec<Segment> {
+    let shortest = u64::from(d) + u64::from(gmax) + 1;
+    (0..limits.len())
         .map(|s| Segment {
             length: if lively {
                 random.within(shortest, (shortest + shortest / 4).min(LONGEST.into()))
@@ -115,9 +164,7 @@ pub fn area(random: &mut Random, lively: bool) -> Description {
             previous: previous[s],
             flags: if lively { ENTRY | EXIT } else { random.within(0, 3) as u8 },
         })
-        .collect();
-    let routes = (0..random.edgy(1, ROUTES.into())).map(|_| route(random, &segments)).collect();
-    Description { gmax, b, d, segments, routes }
+        .collect()
 }
 
 /// A walk along next links.
@@ -207,11 +254,39 @@ pub fn call(random: &mut Random, area: &Description, due: u8) -> Owned {
     match random.draw() % 20 {
         0..=2 => Owned::Enter(number(random, TRAINS.into()), number(random, routes), entry_speed(random, area)),
         3..=4 => Owned::Leave(number(random, TRAINS.into())),
-        _ => match step {
-            SPEED => Owned::Speed(wishes(random, area)),
-            REQUEST => Owned::Request,
-            GRANT => Owned::Grant,
-            _ => Owned::Position,
-        },
+        _ => step_of(step, || wishes(random, area)),
+    }
+}
+
+/// A step of a cycle, that of speed with these wishes.
+fn step_of(due: u8, wishes: impl FnOnce() -> Vec<u16>) -> Owned {
+    match due {
+        SPEED => Owned::Speed(wishes()),
+        REQUEST => Owned::Request,
+        GRANT => Owned::Grant,
+        _ => Owned::Position,
+    }
+}
+
+/// A call by which trains meet: at times any call, otherwise trains enter, those at their route's end leave, and all the others run on,
+/// at times with some of them held back.
+pub fn meeting(random: &mut Random, area: &Description, record: &Record) -> Owned {
+    if random.one_in(16) {
+        return call(random, area, record.due);
+    }
+    let numbers = |is: &dyn Fn(u8) -> bool| (1..=TRAINS).filter(|&number| is(number)).collect::<Vec<u8>>();
+    let off = numbers(&|number| !record.train(number).is_on());
+    let at_the_end = numbers(&|number| record.train(number).is_on() && record.train(number).next(&record.tables).is_none());
+    match random.draw() % 8 {
+        0 | 1 if !off.is_empty() => {
+            let route = random.within(1, area.routes.len() as u64) as u16;
+            let first = area.segment(area.routes[usize::from(route) - 1][0]);
+            Owned::Enter((*random.of(&off)).into(), route, random.edgy(0, first.limit.into()) as u16)
+        }
+        2..=4 if !at_the_end.is_empty() => Owned::Leave((*random.of(&at_the_end)).into()),
+        _ => step_of(record.due, || {
+            let some = random.one_in(4);
+            (0..WISHES).map(|_| if some && random.one_in(2) { 0 } else { area.gmax }).collect()
+        }),
     }
 }

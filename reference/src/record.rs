@@ -11,7 +11,7 @@ pub const GRANT: u8 = 2;
 pub const POSITION: u8 = 3;
 
 /// "A train on the area has a route, a place in it, a position in its segment and a speed."
-/// Off means route 0.
+/// Off means route 0. R-2 of document 02: "Each train counts the grant steps at which it asked and got nothing".
 #[derive(Clone, Copy, PartialEq, Eq, Debug)]
 pub struct RawTrain {
     pub route: u8,
@@ -20,11 +20,12 @@ pub struct RawTrain {
     pub speed: u16,
     /// 1 where it asks, 0 where not; another number is in no sound record
     pub asks: u8,
+    pub count: u16,
 }
 
 impl RawTrain {
-    /// "A train off is all zero."
-    pub const OFF: RawTrain = RawTrain { route: 0, place: 0, position: 0, speed: 0, asks: 0 };
+    /// "A train off is all zero." R-2: "a train off has count 0".
+    pub const OFF: RawTrain = RawTrain { route: 0, place: 0, position: 0, speed: 0, asks: 0, count: 0 };
 
     pub fn is_on(&self) -> bool {
         self.route != 0
@@ -81,7 +82,7 @@ pub fn sound(record: &Record) -> bool {
     record.tables.meet_4_to_10()
         // "The step due is one of four."
         && record.due <= POSITION
-        // "A train off is all zero."
+        // "A train off is all zero.", its count too
         && record.trains.iter().all(|train| train.is_on() || *train == RawTrain::OFF)
         // "Every allocation is 0 or the number of a train on; above N it is 0."
         && record.allocations.iter().all(|&train| train == 0 || is_train_on(record, train))
@@ -95,6 +96,7 @@ fn is_train_on(record: &Record, number: u8) -> bool {
 }
 
 /// The sentences about one train on, in a record whose tables meet 4 to 10.
+// reading: no sentence speaks of the count of a train on; any is sound, whether it asks or not.
 fn sound_train_on(record: &Record, number: u8) -> bool {
     let tables = &record.tables;
     let train = record.train(number);

@@ -13,6 +13,7 @@ pub fn state_of(record: &Record) -> [u8; STATE_SIZE] {
         bytes[..3].copy_from_slice(&[train.route, train.place, train.asks]);
         bytes[4..8].copy_from_slice(&train.position.to_le_bytes());
         bytes[8..10].copy_from_slice(&train.speed.to_le_bytes());
+        bytes[10..12].copy_from_slice(&train.count.to_le_bytes());
     }
     state
 }
@@ -27,6 +28,7 @@ pub fn record_of(tables: &Tables, state: &[u8; STATE_SIZE]) -> Record {
             position: u32::from_le_bytes(bytes[4..8].try_into().unwrap()),
             speed: u16::from_le_bytes([bytes[8], bytes[9]]),
             asks: bytes[2],
+            count: u16::from_le_bytes([bytes[10], bytes[11]]),
         };
     }
     Record { tables: *tables, allocations: state[STATE_ALLOCATIONS].try_into().unwrap(), trains, due: state[0] }

@@ -93,12 +93,31 @@ pub fn area_a() -> Description {
 pub const AREA_A_ENTRIES: [Call; 2] = [Call::Enter { train: 1, route: 1, speed: 250 }, Call::Enter { train: 2, route: 2, speed: 200 }];
 pub const AREA_A_CYCLE: [Call; 4] = cycle(&[300; WISHES]);
 
+/// The next links of all segments, and the previous links.
+pub(crate) type Links = (Vec<[u8; 2]>, Vec<[u8; 2]>);
+
+/// Segment k of n leads to k + 1 and k + 2.
+pub(crate) fn links_ahead(n: u8) -> Links {
+    let at = |number: i32| if (1..=n.into()).contains(&number) { number as u8 } else { 0 };
+    (1..=n.into()).map(|k| ([at(k + 1), at(k + 2)], [at(k - 1), at(k - 2)])).unzip()
+}
+
 /// An area with every segment and every route, 31 segments each: segment k leads to k + 1 and k + 2, route r runs from r on.
 pub fn full_area() -> Description {
-    let at = |number: i32| if (1..=SEGMENTS.into()).contains(&number) { number as u8 } else { 0 };
-    let segments = (1..=SEGMENTS.into())
-        .map(|k| Segment { length: 9000, limit: 290, next: [at(k + 1), at(k + 2)], previous: [at(k - 1), at(k - 2)], flags: ENTRY | EXIT })
-        .collect();
+    let (next, previous) = links_ahead(SEGMENTS);
+    let segment = |(next, previous)| Segment { length: 9000, limit: 290, next, previous, flags: ENTRY | EXIT };
+    let segments = next.into_iter().zip(previous).map(segment).collect();
     let routes = (1..=ROUTES).map(|r| (r..r + ROUTE_SEGMENTS).collect()).collect();
     Description { gmax: 300, b: 10, d: 4650, segments, routes }
+}
+
+/// The full area with routes that merge two by two: routes 1 and 2 start on 1 and 2 and go to 3, routes 3 and 4 start on 4 and 5 and go
+/// to 6, and so on; from there they go from segment to segment as far as they can.
+pub fn merging_area() -> Description {
+    let route = |before: u8| {
+        let merge = before / 2 * 3 + 3;
+        let first = merge - 2 + before % 2;
+        [first].into_iter().chain(merge..=SEGMENTS).take(ROUTE_SEGMENTS.into()).collect()
+    };
+    Description { routes: (0..ROUTES).map(route).collect(), ..full_area() }
 }

@@ -18,7 +18,7 @@ fn longer() -> Description {
 }
 
 fn train(route: u8, place: u8, position: u32, speed: u16) -> RawTrain {
-    RawTrain { route, place, position, speed, asks: 0 }
+    RawTrain { route, place, position, speed, asks: 0, count: 0 }
 }
 
 fn raw(description: &Description, due: u8, trains: &[(usize, RawTrain)], allocations: &[u8]) -> Record {
@@ -165,7 +165,7 @@ fn speed_step() {
 
 #[test]
 fn request_and_grant_step() {
-    // 2 and 7 are near and ask for segment 3; the least number asking gets it
+    // 2 and 7 are near and ask for segment 3; of equal counts the higher number gets it, and the other counts
     let trains = [(7, train(1, 1, 1350, 290)), (2, train(2, 1, 850, 290))];
     let record = raw(&area_a(), REQUEST, &trains, &[7, 2, 0]);
     let (number, asked) = call_on(&record, &Call::Request);
@@ -173,7 +173,7 @@ fn request_and_grant_step() {
     assert_eq!((asked.trains[6].asks, asked.trains[1].asks), (1, 1));
     let (number, granted) = call_on(&asked, &Call::Grant);
     assert_eq!(number, 0);
-    assert_eq!(granted, raw(&area_a(), POSITION, &trains, &[7, 2, 2]));
+    assert_eq!(granted, raw(&area_a(), POSITION, &[trains[0], (2, RawTrain { count: 1, ..trains[1].1 })], &[7, 2, 7]));
     // not near, or with next allocated to it, or without a next: no asking
     for (train, allocations) in
         [(train(1, 1, 1349, 300), [7, 0, 0]), (train(1, 1, 1350, 300), [7, 0, 7]), (train(1, 2, 3350, 290), [0, 0, 7])]
@@ -181,11 +181,13 @@ fn request_and_grant_step() {
         let record = raw(&area_a(), REQUEST, &[(7, train)], &allocations);
         assert_eq!(call_on(&record, &Call::Request), (0, Record { due: GRANT, ..record }));
     }
-    // next taken by another train: it asks, and goes without
+    // next taken by another train: it asks, goes without, and counts
     let taken = raw(&area_a(), REQUEST, &[(7, train(1, 1, 1350, 290)), (2, train(2, 2, 0, 0))], &[7, 0, 2]);
     let (_, asked) = call_on(&taken, &Call::Request);
     assert_eq!(asked.trains[6].asks, 1);
-    assert_eq!(call_on(&asked, &Call::Grant), (0, Record { due: POSITION, ..taken }));
+    let mut without = Record { due: POSITION, ..taken };
+    without.trains[6].count = 1;
+    assert_eq!(call_on(&asked, &Call::Grant), (0, without));
     // a train that leaves while others ask, and enters beside them
     let mut area = Area::from_record(&asked).unwrap();
     assert_eq!((area.leave(2), area.enter(1, 2, 290), area.grant()), (0, 0, 0));
@@ -239,6 +241,9 @@ fn sound_record() {
     broken(&|r| r.trains[23].speed = 1);
     for asks in [1, 2, 255] {
         broken(&|r| r.trains[23].asks = asks);
+    }
+    for count in [1, 255, 256, LAST_COUNT] {
+        broken(&|r| r.trains[23].count = count);
     }
     // allocations
     broken(&|r| r.allocations[3] = 3);
@@ -304,7 +309,8 @@ fn sound_of_wild_records() {
         let mut tables = decode_tables(&[byte; FILE_SIZE]);
         let mut record = Record { tables, ..Record::BLANK };
         record.allocations = [byte; SEGMENTS as usize];
-        record.trains = [RawTrain { route: byte, place: byte, position: wide, speed: wide as u16, asks: byte.max(1) }; TRAINS as usize];
+        let train = RawTrain { route: byte, place: byte, position: wide, speed: wide as u16, asks: byte.max(1), count: wide as u16 };
+        record.trains = [train; TRAINS as usize];
         record.due = byte;
         assert!(!sound(&record));
         tables = decode_tables(&longer().file());

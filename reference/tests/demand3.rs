@@ -69,7 +69,7 @@ fn says(verdict: Result<(), String>, words: &str) {
 }
 
 const fn standing(route: u8) -> RawTrain {
-    RawTrain { route, place: 1, position: 0, speed: 0, asks: 0 }
+    RawTrain { route, place: 1, position: 0, speed: 0, asks: 0, count: 0 }
 }
 
 // ---- Whole runs
@@ -260,6 +260,12 @@ fn stops_within_what_is_allocated_only() {
 }
 
 // ---- Demand 3
+
+/// No sentence speaks of the count.
+#[test]
+fn says_nothing_of_counts() {
+    assert_eq!(Run::of_area_a(23).doctored(|r| (r.trains[0].count, r.trains[5].count) = (7, 65_535)), Ok(()));
+}
 
 /// "no two trains are on one segment"
 #[test]

@@ -1,8 +1,9 @@
 //! The inputs of the comparison are what they claim to be.
 
 use reference::breaks::{from_rule, Where, BREAKS, PLACES};
-use reference::edges::{record_at, sound_record, EDGES};
-use reference::random::{area, Random};
+use reference::edges::{leaving_record, record_at, sound_record, EDGES};
+use reference::merges::{merging_record, Merging};
+use reference::random::{area, meeting, merges, Random};
 use reference::*;
 
 #[test]
@@ -10,6 +11,8 @@ fn areas_made_to_meet_the_rules_are_accepted() {
     let mut random = Random::new(7);
     for k in 0..3000 {
         let made = area(&mut random, k % 2 == 0);
+        assert_eq!(load(&made.file()).err(), None, "{made:?}");
+        let made = merges(&mut random);
         assert_eq!(load(&made.file()).err(), None, "{made:?}");
     }
 }
@@ -155,4 +158,61 @@ fn each_edge_is_on_its_side() {
     for (edge, hit) in EDGES.iter().zip(hits) {
         assert!(hit > 0, "{}", edge.name);
     }
+}
+
+/// The grant step does what is known from how the record was made, and the records have what they are made for.
+#[test]
+fn records_made_before_merges() {
+    let mut random = Random::new(18);
+    let (mut most_asking, mut most_contests) = (0, 0);
+    for k in 0..3000 {
+        let description = if k % 3 == 0 { area(&mut random, k % 2 == 0) } else { merges(&mut random) };
+        let tables = *load(&description.file()).unwrap().tables();
+        let Merging { before, after } = merging_record(&mut random, &tables);
+        assert!(sound(&before) && before.due == GRANT, "{before:?}");
+        assert_eq!(call_on(&before, &Call::Grant), (0, after), "{before:?}");
+        let asked: Vec<u8> = before.trains.iter().filter(|train| train.asks == 1).filter_map(|train| train.next(&tables)).collect();
+        let contests = (1..=tables.n).filter(|&segment| before.allocated(segment) == 0);
+        most_contests = most_contests.max(contests.filter(|segment| asked.iter().filter(|next| *next == segment).count() == 2).count());
+        most_asking = most_asking.max(asked.len());
+    }
+    assert!(most_asking >= 20 && most_contests >= 8, "{most_asking} asking, {most_contests} contests");
+}
+
+/// A train that leaves with a count.
+#[test]
+fn records_with_a_train_that_may_leave() {
+    let mut random = Random::new(19);
+    let mut hits = 0;
+    for k in 0..500u32 {
+        let tables = *load(&area(&mut random, true).file()).unwrap().tables();
+        if let Some((record, number)) = leaving_record(&mut random, &tables, (k % 4) as u8) {
+            assert!(sound(&record) && record.train(number).count > 0);
+            let (answer, left) = call_on(&record, &Call::Leave { train: number.into() });
+            assert_eq!((answer, *left.train(number)), (0, RawTrain::OFF));
+            hits += 1;
+        }
+    }
+    assert!(hits > 200, "{hits}");
+}
+
+/// Trains meet: they wait, and more than one segment is asked for by two trains in one step.
+#[test]
+fn calls_by_which_trains_meet() {
+    let mut random = Random::new(20);
+    let (mut longest, mut several) = (0, 0);
+    for _ in 0..100 {
+        let description = merges(&mut random);
+        let mut area = load(&description.file()).unwrap();
+        for _ in 0..500 {
+            let record = area.record();
+            let asked: Vec<u8> =
+                record.trains.iter().filter(|train| train.asks == 1).filter_map(|train| train.next(&record.tables)).collect();
+            let twice = asked.iter().filter(|next| record.allocated(**next) == 0 && asked.iter().filter(|one| one == next).count() == 2);
+            several += usize::from(twice.count() > 2);
+            longest = longest.max(record.trains.iter().map(|train| train.count).max().unwrap_or(0));
+            area.call(&meeting(&mut random, &description, &record).call());
+        }
+    }
+    assert!(longest > 10 && several > 10, "{longest} counted, {several} times several");
 }

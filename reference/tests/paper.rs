@@ -6,7 +6,7 @@ use reference::*;
 #[test]
 fn numbers_of_the_paper() {
     assert_eq!((SEGMENTS, ROUTES, ROUTE_SEGMENTS, TRAINS, WISHES), (62, 30, 31, 24, 24));
-    assert_eq!((TOP_SPEED, LONGEST), (1000, 1_000_000));
+    assert_eq!((TOP_SPEED, LONGEST, LAST_COUNT), (1000, 1_000_000, 65_535));
     assert_eq!((BLOCKS, BLOCK_SIZE, FILE_SIZE), (5, 512, 2560));
     assert_eq!(FILE_SIZE, BLOCKS * BLOCK_SIZE);
     // two blocks of segments, two of routes
@@ -122,12 +122,12 @@ fn edges_of_the_file() {
 #[test]
 fn edge_of_the_position_step() {
     let mut record = Record::loaded(decode_tables(&area_a().file()));
-    record.trains[0] = RawTrain { route: 1, place: 1, position: 5710, speed: 290, asks: 0 };
+    record.trains[0] = RawTrain { route: 1, place: 1, position: 5710, speed: 290, asks: 0, count: 9 };
     record.allocations[..3].copy_from_slice(&[1, 0, 1]);
     record.due = POSITION;
     let (number, back) = call_on(&record, &Call::Position);
     assert_eq!(number, 0);
-    assert_eq!(back.trains[0], RawTrain { route: 1, place: 2, position: 0, speed: 290, asks: 0 });
+    assert_eq!(back.trains[0], RawTrain { route: 1, place: 2, position: 0, speed: 290, asks: 0, count: 9 });
     assert_eq!(back.allocations[..3], [0, 0, 1]);
     assert_eq!(back.due, SPEED);
     // one less stays

@@ -140,7 +140,7 @@ fn buffer_22() {
 /// allocation, a train.
 #[test]
 fn unsound_11() {
-    let changes: [fn(&mut Record); 7] = [
+    let changes: [fn(&mut Record); 8] = [
         |r| *r = Record::BLANK,
         |r| r.tables.d = 4649,
         |r| r.tables.segments[61].flags = 1,
@@ -148,6 +148,7 @@ fn unsound_11() {
         |r| r.due = 4,
         |r| r.allocations[61] = 1,
         |r| r.trains[23].asks = 2,
+        |r| r.trains[23].count = 1,
     ];
     for change in changes {
         let mut record = area_a_after(22).record();

@@ -102,12 +102,14 @@ fn answer(number: u8, place: u16) -> Result<(), Refusal> {
 // ---- the record
 
 /// A train: route and place in it, counted from 1; route 0 is a train off, which is all zero. Position in its segment in decimetres,
-/// speed in decimetres per cycle; `asks` is 1 between request and grant where it asks for its next segment, and 0 otherwise.
+/// speed in decimetres per cycle; `asks` is 1 between request and grant where it asks for its next segment, and 0 otherwise; `count` is
+/// at how many grant steps it has asked and got nothing since it last got a segment, 65,535 at the most.
 #[repr(C)]
 #[derive(Clone, Copy, PartialEq, Eq, Debug)]
 pub struct Train {
     pub route: u8,
     pub place: u8,
+    pub count: u16,
     pub position: u32,
     pub speed: u16,
     pub asks: u8,
@@ -115,7 +117,7 @@ pub struct Train {
 
 impl Train {
     /// A train off.
-    pub const OFF: Train = Train { route: 0, place: 0, position: 0, speed: 0, asks: 0 };
+    pub const OFF: Train = Train { route: 0, place: 0, count: 0, position: 0, speed: 0, asks: 0 };
 
     pub fn is_on(&self) -> bool {
         self.route != 0
@@ -241,7 +243,7 @@ impl Area {
         answer(unsafe { rbu_request(&mut self.record) }, 0)
     }
 
-    /// The grant step: free segments go to the least train number that asks.
+    /// The grant step: a free segment goes to the train with the highest count that asks for it, of equal counts to the higher number.
     pub fn grant(&mut self) -> Result<(), Refusal> {
         // SAFETY: the record is lent by `&mut`.
         answer(unsafe { rbu_grant(&mut self.record) }, 0)

@@ -72,7 +72,7 @@ fn what_a_record_holds() {
     assert_eq!(tables.flags[..4], [1, 1, 2, 0]);
     assert_eq!([0, 1, 2, 3, 31, 255].map(|route| tables.route(route).to_vec()), [vec![], vec![1, 3], vec![2, 3], vec![], vec![], vec![]]);
     assert_eq!([1, 2, 3, 62].map(|segment| area.allocated_to(segment)), [1, 2, 2, 0]);
-    assert_eq!(*area.train(1), Train { route: 1, place: 1, position: 1790, speed: 290, asks: 0 });
+    assert_eq!(*area.train(1), Train { route: 1, place: 1, count: 1, position: 1790, speed: 290, asks: 0 });
     assert_eq!((*area.train(3), area.segment_of(3)), (Train::OFF, 0));
     assert_eq!(area.report(), Ok(Report { allocated: 3, free: 0 }));
     assert!(area.is_sound());
@@ -151,6 +151,7 @@ fn runs_over_bytes() {
     for (train, told) in area.record().trains.iter().zip(state[64..].chunks(32)) {
         assert_eq!(told[..3], [train.route, train.place, train.asks]);
         assert_eq!((&told[4..8], &told[8..10]), (&train.position.to_le_bytes()[..], &train.speed.to_le_bytes()[..]));
+        assert_eq!(told[10..12], train.count.to_le_bytes());
     }
     assert!(bytes::sound(AREA_A, &state));
     assert_eq!(bytes::report_record(AREA_A, &state), (0, 3, 0));

@@ -96,10 +96,11 @@ requestCall a = outcome (stepTests requestDue a) (afterRequest a) a
 
 unfoldable pub afterGrant : Area → Area
 afterGrant a =
+    let allocations = each (granted (a .tables) (a .trains)) (a .allocations) in
     record {
       tables = a .tables;
-      allocations = each (granted (a .tables) (a .trains)) (a .allocations);
-      trains = each (λ (t : ℕ). calmed) (a .trains);
+      allocations = allocations;
+      trains = each (calmed (a .tables) (a .allocations) allocations) (a .trains);
       due = positionDue;
     }
 

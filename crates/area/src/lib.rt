@@ -249,7 +249,7 @@ pub fn grant_found(
         };
     }
     let allocations_after = grant::granted_all(routebytes, trains, allocations);
-    let trains_after = grant::calmed_all(trains);
+    let trains_after = grant::calmed_all(routebytes, &allocations, &allocations_after, trains);
     Change {
         number: 0,
         allocations: allocations_after,

@@ -10,9 +10,8 @@ ghost use Rattle.trains.specs.Cycle.{spedAt, requestedAt, movesIn, movedIn, fre
 ghost use Rattle.standing.specs.Spots.{spotAt};
 ghost use Rattle.steps.specs.Room.{Room};
 use lists::entry_u16;
-use lists::entry_u32;
 use steps::left_by;
-use steps::moved_train;
+use steps::moved_by;
 use steps::released_one;
 use steps::requested_train;
 use steps::sped_train;
@@ -60,9 +59,7 @@ pub fn moved_all<'a>(
     let mut i: usize = 0;
     while i < 24 {
         let x = trains[i];
-        let own = standing::own_of(routebytes, x);
-        let length = entry_u32(lengths, own as usize);
-        new[i] = moved_train(length, x);
+        new[i] = moved_by(routebytes, lengths, x);
         i += 1;
     }
     new

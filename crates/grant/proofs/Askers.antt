@@ -1,43 +1,49 @@
--- The least train that asks for each segment, gathered train by train.
+-- Of the trains that ask for each segment the one that goes before the others, gathered train by train.
 use Prim.Native.Nat.{ℕ, _+_}
 use mathlib.Core.Path.{_≡_, refl, sym, ap, _∙_}
+use mathlib.Core.Bool.{_||_}
 use mathlib.Core.List.{List}
 use lib.Dec.{eqb}
 use lib.ListN.{replicate}
 use borrow.Author.Tests.{eq-eqb, ne-eqb}
-use Rattle.lists.specs.Words.{if_then_else_, at, each, tabulate, _orElse_, least}
-use Rattle.lists.proofs.Cases.{cases, eq-or-ne, or-none}
+use Rattle.lists.specs.Words.{if_then_else_, at, each, tabulate}
+use Rattle.lists.proofs.Cases.{cases, eq-or-ne}
 use Rattle.lists.proofs.Numbered.{nth-tabulate, each-made, tabulate-same}
-use Rattle.lists.proofs.Loops.{least-next}
+use Rattle.trains.specs.Order.{goesBefore, foremost}
+use Rattle.trains.proofs.Order.{foremost-next}
 
--- the least of the first i trains that asks for segment s
-abbrev pub askerOf : (asked : List ℕ) (i s : ℕ) → ℕ
-askerOf asked i s = least i (λ (t : ℕ). eqb (at asked t) s)
+module _ (counts asked : List ℕ) where
+  -- of the first i trains that ask for segment s, the one that goes before the others
+  abbrev pub askerOf : (i s : ℕ) → ℕ
+  askerOf i s = foremost (goesBefore (at counts)) i (λ (t : ℕ). eqb (at asked t) s)
 
-pub askers-begin : (asked : List ℕ) → replicate 62 0 ≡ tabulate 62 (askerOf asked 0)
-unfolding tabulate least
-askers-begin asked = refl
+  -- train t asks for what train u is to be served with: which of the two is served
+  abbrev pub ofTwo : (t u : ℕ) → ℕ
+  ofTwo t u = if eqb u 0 || goesBefore (at counts) t u then t else u
 
-module _ (asked : List ℕ) (i s : ℕ) (said : s ≡ at asked (i + 1)) where
-  asker-here : (k : ℕ) → k ≡ s → askerOf asked (i + 1) k ≡ askerOf asked i k orElse (i + 1)
-  asker-here k q = rw (eq-eqb (at asked (i + 1)) k (sym said ∙ sym q)) at (least-next (λ (t : ℕ). eqb (at asked t) k) i)
+  pub askers-begin : replicate 62 0 ≡ tabulate 62 (askerOf 0)
+  unfolding tabulate foremost
+  askers-begin = refl
 
-  asker-other : (k : ℕ) → (k ≡ s → ⊥) → askerOf asked (i + 1) k ≡ askerOf asked i k
-  asker-other k n =
-      let e = rw (ne-eqb (at asked (i + 1)) k (λ z. n (sym z ∙ sym said))) at (least-next (λ (t : ℕ). eqb (at asked t) k) i) in
-      e ∙ or-none (askerOf asked i k)
+  module _ (i s : ℕ) (said : s ≡ at asked (i + 1)) where
+    asker-here : (k : ℕ) → k ≡ s → askerOf (i + 1) k ≡ ofTwo (i + 1) (askerOf i k)
+    asker-here k q =
+        rw (eq-eqb (at asked (i + 1)) k (sym said ∙ sym q)) at (foremost-next (goesBefore (at counts)) (λ (t : ℕ). eqb (at asked t) k) i)
 
-  pub askers-more :
-      (first : List ℕ) → first ≡ tabulate 62 (askerOf asked i)
-      → each (λ (k h : ℕ). if eqb k s then at first s orElse (i + 1) else h) first ≡ tabulate 62 (askerOf asked (i + 1))
-  askers-more first made =
-      rw made
-      (each-made (λ (k h : ℕ). if eqb k s then at (tabulate 62 (askerOf asked i)) s orElse (i + 1) else h) 62 (askerOf asked i)
-      ∙ tabulate-same 62 (λ (k : ℕ). if eqb k s then at (tabulate 62 (askerOf asked i)) s orElse (i + 1) else askerOf asked i k) (askerOf asked (i + 1))
-      (λ k low high.
-      cases (eq-or-ne k s)
-      (λ q.
-      rw (eq-eqb k s q)
-      (ap (λ (x : ℕ). x orElse (i + 1)) (ap (at (tabulate 62 (askerOf asked i))) (sym q) ∙ nth-tabulate 0 62 (askerOf asked i) k low high)
-      ∙ sym (asker-here k q)))
-      (λ n. rw (ne-eqb k s n) (sym (asker-other k n)))))
+    asker-other : (k : ℕ) → (k ≡ s → ⊥) → askerOf (i + 1) k ≡ askerOf i k
+    asker-other k n =
+        rw (ne-eqb (at asked (i + 1)) k (λ z. n (sym z ∙ sym said))) at (foremost-next (goesBefore (at counts)) (λ (t : ℕ). eqb (at asked t) k) i)
+
+    pub askers-more :
+        (first : List ℕ) → first ≡ tabulate 62 (askerOf i)
+        → each (λ (k h : ℕ). if eqb k s then ofTwo (i + 1) (at first s) else h) first ≡ tabulate 62 (askerOf (i + 1))
+    askers-more first made =
+        rw made
+        (each-made (λ (k h : ℕ). if eqb k s then ofTwo (i + 1) (at (tabulate 62 (askerOf i)) s) else h) 62 (askerOf i)
+        ∙ tabulate-same 62 (λ (k : ℕ). if eqb k s then ofTwo (i + 1) (at (tabulate 62 (askerOf i)) s) else askerOf i k) (askerOf (i + 1))
+        (λ k low high.
+        cases (eq-or-ne k s)
+        (λ q.
+        rw (eq-eqb k s q)
+        (ap (ofTwo (i + 1)) (ap (at (tabulate 62 (askerOf i))) (sym q) ∙ nth-tabulate 0 62 (askerOf i) k low high) ∙ sym (asker-here k q)))
+        (λ n. rw (ne-eqb k s n) (sym (asker-other k n)))))

@@ -83,9 +83,5 @@ or-first (suc a) b h = refl
 pub or-second : (a b : ℕ) → a ≡ 0 → b ≡ a orElse b
 or-second a b e = rw e
 
-pub or-none : (a : ℕ) → a orElse 0 ≡ a
-or-none zero = refl
-or-none (suc a) = refl
-
 pub or-if : (a b : ℕ) → a orElse b ≡ (if eqb a 0 then b else a)
 or-if a b = cases (eq-or-ne a 0) (λ e. rw (eq-eqb a 0 e) (sym (or-second a b e))) (λ n. rw (ne-eqb a 0 n) (sym (or-first a b n)))

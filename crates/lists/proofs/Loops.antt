@@ -59,10 +59,6 @@ module _ (p : ℕ → Bool) where
   unfolding least
   least-nothing = refl
 
-  pub least-next : (i : ℕ) → least (i + 1) p ≡ least i p orElse (if p (i + 1) then i + 1 else 0)
-  unfolding least
-  least-next i = rw add-one
-
   pub least-more : (i : ℕ) → least i p ≡ 0 → p (i + 1) ≡ false → least (i + 1) p ≡ 0
   unfolding least
   least-more i before here = rw (add-one i, least, before, ← add-one i, here)
@@ -86,7 +82,7 @@ module _ (p : ℕ → Bool) where
       rw (add-one i) (least-kept (suc i) n i (least-here i before (rw (← add-one i) here)) below)
 
   -- what the least number is: one of the numbers, for which the test holds, and for none before it
-  pub least-le : (n : ℕ) → least n p ≤ n
+  least-le : (n : ℕ) → least n p ≤ n
   unfolding least
   least-le zero = omega arith
   least-le (suc n) = go (least n p) refl (least-le n)

@@ -59,7 +59,7 @@ is-sound =
     rw (tables-A, tables)
     (unfold tablesOf every standsSound allocationSound placeSound brakingSound toRun askingSound ownIn nextIn occupiedIn aheadIn wants countOf segmentAt nth S fallingSum B in refl)
 
-moved-on : trainAt (positionCall moving .area .trains) 1 ≡ record { route = 1; place = 2; position = 0; speed = 290; asks = 0 }
+moved-on : trainAt (positionCall moving .area .trains) 1 ≡ record { route = 1; place = 2; position = 0; speed = 290; asks = 0; count = 0 }
 unfolding positionCall afterPosition moving each nth
 moved-on = rw (is-sound, tables) (unfold tablesOf ownIn segmentAt movesIn movedIn in refl)
 

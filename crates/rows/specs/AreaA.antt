@@ -48,6 +48,6 @@ moving =
     record {
       tables = decoded (file headerA segmentsA);
       allocations = 1 ∷ 0 ∷ 1 ∷ replicate 59 0;
-      trains = record { route = 1; place = 1; position = 5710; speed = 290; asks = 0 } ∷ replicate 23 off;
+      trains = record { route = 1; place = 1; position = 5710; speed = 290; asks = 0; count = 0 } ∷ replicate 23 off;
       due = positionDue;
     }

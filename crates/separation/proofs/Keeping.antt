@@ -17,11 +17,12 @@ use Rattle.trains.specs.declared.Train.{Train}
 use Rattle.trains.specs.Due.{speedDue, requestDue, grantDue, positionDue}
 use Rattle.trains.specs.Train.{off, entered, trainAt, isOn, ownIn, ownOf, occupied, ahead}
 use Rattle.trains.specs.Cycle.{sped, requested, movesIn, moved, movedIn, released, freed}
-use Rattle.trains.specs.Grant.{granted, calmed}
+use Rattle.trains.specs.Grant.{granted, countAfter, calmed}
+use Rattle.trains.specs.GrantFacts.{AsksFor}
 use Rattle.trains.specs.EnterLeave.{firstSegment, takenBy, freedBy, becomes}
 use Rattle.trains.proofs.Segments.{own-occupied, occupied-own, wanted-ahead}
 use Rattle.trains.proofs.Safety.{TrainOk, frame, speed-ok, request-ok, grant-ok, position-ok, enter-ok}
-use Rattle.trains.proofs.Grant.{AsksFor, grant-keeps, grant-asked}
+use Rattle.trains.proofs.Grant.{grant-keeps, grant-asked}
 use Rattle.trains.proofs.Calls.{sped-off, left-freed, others-stay, leaver-freed, others-kept, named-becomes, others-same}
 use Rattle.separation.specs.Runs.{History, put, atEnter, atLeave, atGrant, atPosition}
 use Rattle.separation.proofs.Kept.{Kept, route-some, on-same}
@@ -130,9 +131,10 @@ module _ (T : Tables) (K : Consistent T) (A : List ℕ) (X : List Train) (h : Hi
         either-yes (h .granted t s) (not (eqb (at A s) t) && eqb (at A′ s) t)
         (inr (rw (ne-eqb (at A s) t n, eq-eqb (at A′ s) t e)))
 
-    pub keep-grant : Kept T A′ (each (λ (t : ℕ). calmed) X) positionDue (atGrant h A A′)
+    pub keep-grant : Kept T A′ (each (calmed T A A′) X) positionDue (atGrant h A A′)
+    unfolding calmed countAfter
     keep-grant =
-        step-keeps k (λ (t : ℕ). calmed) A′ positionDue (h .way) granted′ (omega arith) (length-each (granted T X) A ∙ k .segments) (λ t. refl) (λ t x. refl)
+        step-keeps k (calmed T A A′) A′ positionDue (h .way) granted′ (omega arith) (length-each (granted T X) A ∙ k .segments) (λ t. refl) (λ t x. refl)
         (λ t o.
         let some = number-some t X (route-some T A X grantDue h k t o) in
         grant-ok T K (k .ons t o) (λ s e. keeps-held s t some e)

@@ -46,7 +46,7 @@ shown-by :
     (T U : Tables) (x : Train) (way′ r way p : ℕ) → U ≡ T → isOn x ≡ true → way′ ≡ way → x .route ≡ r
     → 1 ≤ p → p ≤ countOf (T .routebytes) r → startAfter T r (p - 1) ≤ way → way < startAfter T r p
     → x .place ≡ p → x .position ≡ way - startAfter T r (p - 1)
-    → shownTrain U (record { route = x .route; way = way′; speed = x .speed; asks = x .asks }) ≡ x
+    → shownTrain U (record { route = x .route; way = way′; speed = x .speed; asks = x .asks; count = x .count }) ≡ x
 unfolding shownTrain
 shown-by T U x way′ r way p same on e f low high from to place position =
     let q : placeOfWay U (x .route) way′ ≡ x .place = rw (same, e, f) (place-of-way T r way p low high from to) ∙ sym place in

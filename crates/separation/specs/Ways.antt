@@ -22,9 +22,10 @@ pub record WayTrain : Type 0 where
   pub way : ℕ
   pub speed : ℕ
   pub asks : ℕ
+  pub count : ℕ
 
 abbrev pub offWay : WayTrain
-offWay = record { route = 0; way = 0; speed = 0; asks = 0 }
+offWay = record { route = 0; way = 0; speed = 0; asks = 0; count = 0 }
 
 pub record WayWorld : Type 0 where
   pub tables : Tables
@@ -50,6 +51,7 @@ shownTrain T i =
       position = i .way - startAfter T (i .route) (placeOfWay T (i .route) (i .way) - 1);
       speed = i .speed;
       asks = i .asks;
+      count = i .count;
     }
     else off
 
@@ -65,7 +67,7 @@ wayAfter Request t i = i .way
 wayAfter Grant t i = i .way
 wayAfter Position t i = i .way + i .speed
 
--- route, speed and asking are those of the train that the call hands back
+-- route, speed, asking and count are those of the train that the call hands back
 abbrev pub wayTrainBy : WayWorld → Call → Outcome → ℕ → WayTrain
 wayTrainBy i c o t =
     record {
@@ -73,6 +75,7 @@ wayTrainBy i c o t =
       way = if isDone (o .answer) then wayAfter c t (wayTrainAt i t) else wayTrainAt i t .way;
       speed = trainAt (o .area .trains) t .speed;
       asks = trainAt (o .area .trains) t .asks;
+      count = trainAt (o .area .trains) t .count;
     }
 
 abbrev pub wayWorldBy : WayWorld → Call → Outcome → WayWorld

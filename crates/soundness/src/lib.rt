@@ -16,7 +16,7 @@ use trains::Train;
 fn off_sound(x: Train) -> bool
     ensures { λ r. ⌜ r ≡ offSound x ⌝ }
 {
-    (x.place == 0) & (x.position == 0) & (x.speed == 0) & (x.asks == 0)
+    (x.place == 0) & (x.position == 0) & (x.speed == 0) & (x.asks == 0) & (x.count == 0)
 }
 
 fn place_sound(routes: u8, spot: Spot, x: Train) -> bool

@@ -3,7 +3,7 @@ ghost use mathlib.Core.Path.{_≡_};
 ghost use Prim.Native.Nat.{_-_};
 ghost use lib.Dec.{leb, eqb};
 ghost use Rattle.lists.specs.Words.{at, each};
-ghost use Rattle.trains.specs.Train.{off, entered, withSpeed, asking, withAsking, movedTo, trainAt, ownIn, nextIn, occupiedIn, aheadIn, wantedIn};
+ghost use Rattle.trains.specs.Train.{off, entered, withSpeed, asking, withAsking, answered, movedTo, trainAt, ownIn, nextIn, occupiedIn, aheadIn, wantedIn};
 ghost use Rattle.trains.specs.Spot.{spotIn};
 ghost use Rattle.trains.specs.Cycle.{wants};
 ghost use Rattle.standing.specs.Spots.{noSpot, standsIn};
@@ -13,7 +13,7 @@ use lists::entry_u32;
 use trains::Spot;
 use trains::Train;
 
-// ---- the five forms in which a train is written
+// ---- the six forms in which a train is written
 pub fn train_off() -> Train
     ensures { λ r. ⌜ r ≡ off ⌝ }
 {
@@ -23,6 +23,7 @@ pub fn train_off() -> Train
         position: 0,
         speed: 0,
         asks: 0,
+        count: 0,
     }
 }
 
@@ -35,6 +36,7 @@ pub fn entered_train(route: u8, speed: u16) -> Train
         position: 0,
         speed,
         asks: 0,
+        count: 0,
     }
 }
 
@@ -47,6 +49,7 @@ pub fn with_speed(x: Train, speed: u16) -> Train
         position: x.position,
         speed,
         asks: x.asks,
+        count: x.count,
     }
 }
 
@@ -66,6 +69,20 @@ pub fn with_asking(x: Train, asks: bool) -> Train
         position: x.position,
         speed: x.speed,
         asks: asking(asks),
+        count: x.count,
+    }
+}
+
+pub fn answered(x: Train, count: u16) -> Train
+    ensures { λ r. ⌜ r ≡ answered x count ⌝ }
+{
+    Train {
+        route: x.route,
+        place: x.place,
+        position: x.position,
+        speed: x.speed,
+        asks: 0,
+        count,
     }
 }
 
@@ -78,6 +95,7 @@ pub fn moved_to(x: Train, place: u8, position: u32) -> Train
         position,
         speed: x.speed,
         asks: x.asks,
+        count: x.count,
     }
 }
 

@@ -17,15 +17,15 @@ use Rattle.trains.specs.Train.{mostTrains, off}
 use Rattle.area.specs.declared.Area.{Area}
 use Rattle.state.specs.State.{trainBytes, trainRows, headSize, headBytes, stateBytes, stateSize, tablesOf}
 
--- the ten bytes of a train that hold something, put into zeros; p and v are the bytes of its position and of its speed
+-- the twelve bytes of a train that hold something, put into zeros; p, v and n are the bytes of its position, speed and count
 pub train-put :
-    (x : Train) {p v : List ℕ} → p ≡ four (x .position) → v ≡ two (x .speed)
+    (x : Train) {p v n : List ℕ} → p ≡ four (x .position) → v ≡ two (x .speed) → n ≡ two (x .count)
     → putAt 0
-    (x .route ∷ x .place ∷ x .asks ∷ 0 ∷ getD p 0 0 ∷ getD p 1 0 ∷ getD p 2 0 ∷ getD p 3 0 ∷ getD v 0 0 ∷ getD v 1 0 ∷ [])
+    (x .route ∷ x .place ∷ x .asks ∷ 0 ∷ getD p 0 0 ∷ getD p 1 0 ∷ getD p 2 0 ∷ getD p 3 0 ∷ getD v 0 0 ∷ getD v 1 0 ∷ getD n 0 0 ∷ getD n 1 0 ∷ [])
     (replicate 32 0)
     ≡ trainBytes x
 unfolding putAt
-train-put x e f = rw (e, f)
+train-put x e f g = rw (e, f, g)
 
 -- 64 bytes of zeros into which the step due and the allocations are put
 pub head-put :

@@ -14,19 +14,21 @@ use Rattle.trains.specs.declared.Train.{Train}
 use Rattle.trains.specs.Train.{mostTrains}
 use Rattle.area.specs.declared.Area.{Area}
 
--- a train's 32 bytes: route, place, asks (0 or 1 in a sound record), a zero, position, speed, zeros. Where each stands, and all of them as a row
+-- a train's 32 bytes: route, place, asks (0 or 1 in a sound record), a zero, position, speed, count, zeros.
+-- Where each stands, and all of them as a row
 pub record TrainPlaces : Type 0 where
   pub route : ℕ
   pub place : ℕ
   pub asks : ℕ
   pub position : ℕ
   pub speed : ℕ
+  pub count : ℕ
 
 abbrev pub inTrain : TrainPlaces
-inTrain = record { route = 0; place = 1; asks = 2; position = 4; speed = 8 }
+inTrain = record { route = 0; place = 1; asks = 2; position = 4; speed = 8; count = 10 }
 
 abbrev pub trainBytes : Train → List ℕ
-trainBytes x = x .route ∷ x .place ∷ x .asks ∷ 0 ∷ four (x .position) ++ two (x .speed) ++ replicate 22 0
+trainBytes x = x .route ∷ x .place ∷ x .asks ∷ 0 ∷ four (x .position) ++ two (x .speed) ++ two (x .count) ++ replicate 20 0
 
 -- the trains' rows one after the other
 abbrev pub trainRows : List Train → List ℕ
@@ -63,6 +65,7 @@ trainOf state t =
       position = fourAt state (trainStart t + inTrain .position);
       speed = twoAt state (trainStart t + inTrain .speed);
       asks = byteAt state (trainStart t + inTrain .asks);
+      count = twoAt state (trainStart t + inTrain .count);
     }
 
 unfoldable pub recordOf : (file state : List ℕ) → Area

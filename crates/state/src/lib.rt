@@ -14,6 +14,7 @@ fn train_bytes(x: Train) -> [u8; 32]
 {
     let p = octets::four(x.position);
     let v = octets::two(x.speed);
+    let n = octets::two(x.count);
     let held = [
         x.route,
         x.place,
@@ -25,6 +26,8 @@ fn train_bytes(x: Train) -> [u8; 32]
         p[3],
         v[0],
         v[1],
+        n[0],
+        n[1],
     ];
     let mut row = [0u8; 32];
     octets::put(&mut row, 0, &held);
@@ -103,6 +106,7 @@ fn train_of(state: &[u8], i: u8) -> Train
         position: octets::four_at(state, start + 4),
         speed: octets::two_at(state, start as u32 + 8),
         asks: octets::byte(state, at + 2),
+        count: octets::two_at(state, start as u32 + 10),
     }
 }
 

@@ -115,7 +115,7 @@ fn moves_on(length: u32, x: Train) -> bool
     (0 < x.route) & ((length as u64) <= run_to(x.position, x.speed))
 }
 
-pub fn moved_train(length: u32, x: Train) -> Train
+fn moved_train(length: u32, x: Train) -> Train
     requires { ⌜ Room x ⌝ }
     ensures { λ r. ⌜ r ≡ movedIn length x ⌝ }
 {
@@ -126,10 +126,26 @@ pub fn moved_train(length: u32, x: Train) -> Train
     standing::moved_to(x, x.place, to as u32)
 }
 
-// The segment that a train frees: its own where it moves on, 0 where it does not.
+// A train after the step, and below the segment that it frees: its own where it moves on, 0 where it does not. Most trains are off most
+// of the time: there is no look-up for these.
+pub fn moved_by<'a>(routebytes: &'a [u8; 960], lengths: &'a [u32; 62], x: Train) -> Train
+    requires { ⌜ Room x ⌝ }
+    ensures { λ r. ⌜ r ≡ movedIn (at (now (lengths .entry)) (ownIn (now (routebytes .entry)) x)) x ⌝ }
+{
+    if x.route == 0 {
+        return moved_train(0, x);
+    }
+    let own = standing::own_of(routebytes, x);
+    let length = entry_u32(lengths, own as usize);
+    moved_train(length, x)
+}
+
 pub fn left_by<'a>(routebytes: &'a [u8; 960], lengths: &'a [u32; 62], x: Train) -> u8
     ensures { λ r. ⌜ r ≡ (if movesIn (at (now (lengths .entry)) (ownIn (now (routebytes .entry)) x)) x then ownIn (now (routebytes .entry)) x else 0) ⌝ }
 {
+    if x.route == 0 {
+        return 0;
+    }
     let own = standing::own_of(routebytes, x);
     let length = entry_u32(lengths, own as usize);
     if moves_on(length, x) { own } else { 0 }

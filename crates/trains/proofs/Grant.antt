@@ -1,24 +1,20 @@
--- What a grant does, in the paper's words: an allocated segment keeps its holder; a free segment goes to a train that asked for it,
--- and no smaller number did; nobody asks afterwards.
-use Prim.Native.Nat.{ℕ, _≤_}
+-- What a grant does, in the papers' words: an allocated segment keeps its holder; a free segment that is asked for goes to a train that
+-- asked for it, and none that did goes before it; nobody asks afterwards; and what each train counts.
+use Prim.Native.Nat.{ℕ, _+_, _≤_, min}
 use mathlib.Core.Path.{_≡_, refl, sym, _∙_}
 use mathlib.Core.Bool.{Bool, true, false}
 use mathlib.Core.List.{List}
 use native.Mathlib.Omega.{arith}
 use lib.Dec.{eqb}
 use borrow.Author.Tests.{eq-eqb, ne-eqb, eqb-true}
-use Rattle.lists.specs.Words.{if_then_else_, least}
-use Rattle.lists.proofs.Loops.{least-le, least-holds, least-upto}
+use Rattle.lists.specs.Words.{if_then_else_, at}
 use Rattle.tables.specs.declared.Tables.{Tables}
 use Rattle.trains.specs.declared.Train.{Train}
-use Rattle.trains.specs.Train.{mostTrains, trainAt, wanted}
-use Rattle.trains.specs.Grant.{asked, served, granted, calmed}
-
--- train t asks for segment s
-pub record AsksFor (T : Tables) (trains : List Train) (t s : ℕ) : Type 0 where
-  pub isTrain : (1 ≤ t) × (t ≤ mostTrains)
-  pub asks : trainAt trains t .asks ≡ 1
-  pub wants : wanted T (trainAt trains t) ≡ s
+use Rattle.trains.specs.Train.{mostTrains, answered, trainAt, wanted}
+use Rattle.trains.specs.Order.{goesBefore, foremost}
+use Rattle.trains.specs.Grant.{asked, trainCount, served, granted, mostCount, countAfter, calmed}
+use Rattle.trains.specs.GrantFacts.{AsksFor}
+use Rattle.trains.proofs.Order.{before-self, before-through, foremost-le, foremost-holds, foremost-first}
 
 chosen : (b : Bool) (w s : ℕ) → 1 ≤ s → (if b then w else 0) ≡ s → (b ≡ true) × (w ≡ s)
 chosen true w s some e = (refl, e)
@@ -47,26 +43,67 @@ module _ (T : Tables) (trains : List Train) where
   unfolding granted
   granted-free s = refl
 
+  abbrev asksIt : ℕ → ℕ → Bool
+  asksIt s t = eqb (asked T (trainAt trains t)) s
+
+  first-served : (s u : ℕ) → AsksFor T trains u s → (1 ≤ served T trains s) × (goesBefore (trainCount trains) u (served T trains s) ≡ false)
+  unfolding served
+  first-served s u a =
+      foremost-first (goesBefore (trainCount trains)) (before-self (trainCount trains)) (before-through (trainCount trains)) (asksIt s) mostTrains u (a .isTrain .0) (a .isTrain .1) (eq-eqb (asked T (trainAt trains u)) s (of-asks u s a))
+
   -- THE CLAIM: an unallocated segment goes to none but a train asking for it
   pub grant-asked : (s t : ℕ) → 1 ≤ s → 1 ≤ t → granted T trains s 0 ≡ t → AsksFor T trains t s
   unfolding served
   grant-asked s t some high e =
-      let p : ℕ → Bool = λ n. eqb (asked T (trainAt trains n)) s in
-      let same : least mostTrains p ≡ t = sym (granted-free s) ∙ e in
-      let holds : p t ≡ true = rw same at (least-holds p mostTrains (omega arith)) in
-      let le : t ≤ mostTrains = rw same at (least-le p mostTrains) in
+      let before = goesBefore (trainCount trains) in
+      let same : foremost before mostTrains (asksIt s) ≡ t = sym (granted-free s) ∙ e in
+      let holds : asksIt s t ≡ true = rw same at (foremost-holds before (asksIt s) mostTrains (omega arith)) in
+      let le : t ≤ mostTrains = rw same at (foremost-le before (asksIt s) mostTrains) in
       let a = asks-of t s some (eqb-true (asked T (trainAt trains t)) s holds) in
       record { isTrain = (high, le); asks = a .0; wants = a .1 }
 
-  -- THE CLAIM: where trains ask for an unallocated segment, it goes to one, and to no greater number than that of any of them
-  pub grant-least : (s t u : ℕ) → granted T trains s 0 ≡ t → AsksFor T trains u s → (1 ≤ t) × (t ≤ u)
-  unfolding served
-  grant-least s t u e a =
-      let p : ℕ → Bool = λ n. eqb (asked T (trainAt trains n)) s in
-      let same : least mostTrains p ≡ t = sym (granted-free s) ∙ e in
-      let l = least-upto p mostTrains u (a .isTrain .0) (a .isTrain .1) (eq-eqb (asked T (trainAt trains u)) s (of-asks u s a)) in
-      (omega arith, omega arith)
+  -- THE CLAIM: no train that asked for it goes before the one that gets it
+  pub grant-first : (s t u : ℕ) → granted T trains s 0 ≡ t → AsksFor T trains u s → goesBefore (trainCount trains) u t ≡ false
+  grant-first s t u e a = rw (sym (granted-free s) ∙ e) at (first-served s u a .1)
 
--- THE CLAIM: all asking ends
-pub calmed-asks : (x : Train) → calmed x .asks ≡ 0
-calmed-asks x = refl
+  -- THE CLAIM: an unallocated segment that a train asks for gets a holder
+  pub grant-given : (s u : ℕ) → AsksFor T trains u s → 1 ≤ granted T trains s 0
+  grant-given s u a = rw (granted-free s) (first-served s u a .0)
+
+  -- ---- what train t counts afterwards. A are the allocations before the step, A′ those after it
+  module _ (A A′ : List ℕ) (t : ℕ) where
+    abbrev after : Train
+    after = calmed T A A′ t (trainAt trains t)
+
+    abbrev oneMore : ℕ
+    oneMore = min (trainAt trains t .count + 1) mostCount
+
+    -- THE CLAIM: all asking ends
+    pub calmed-asks : after .asks ≡ 0
+    unfolding calmed
+    calmed-asks = refl
+
+    -- THE CLAIM: nothing else of a train changes but its count
+    pub calmed-rest : after ≡ answered (trainAt trains t) (after .count)
+    unfolding calmed
+    calmed-rest = refl
+
+    -- THE CLAIM: its count returns to 0 where it gets the free segment that it asks for
+    pub count-granted : (s : ℕ) → AsksFor T trains t s → at A s ≡ 0 → at A′ s ≡ t → after .count ≡ 0
+    unfolding calmed countAfter
+    count-granted s a free own = rw (eq-eqb (trainAt trains t .asks) 1 (a .asks), of-asks t s a, eq-eqb (at A s) 0 free, eq-eqb (at A′ s) t own)
+
+    -- THE CLAIM: it counts one more, 65,535 at the most, where that goes to another
+    pub count-lost : (s : ℕ) → AsksFor T trains t s → at A s ≡ 0 → (at A′ s ≡ t → ⊥) → after .count ≡ oneMore
+    unfolding calmed countAfter
+    count-lost s a free other = rw (eq-eqb (trainAt trains t .asks) 1 (a .asks), of-asks t s a, eq-eqb (at A s) 0 free, ne-eqb (at A′ s) t other)
+
+    -- THE CLAIM: and likewise where it was allocated already
+    pub count-taken : (s : ℕ) → AsksFor T trains t s → 1 ≤ at A s → after .count ≡ oneMore
+    unfolding calmed countAfter
+    count-taken s a some = rw (eq-eqb (trainAt trains t .asks) 1 (a .asks), of-asks t s a, ne-eqb (at A s) 0 (λ z. omega arith))
+
+    -- THE CLAIM: a train that does not ask keeps its count
+    pub count-kept : (trainAt trains t .asks ≡ 1 → ⊥) → after .count ≡ trainAt trains t .count
+    unfolding calmed countAfter
+    count-kept idle = rw (ne-eqb (trainAt trains t .asks) 1 idle)

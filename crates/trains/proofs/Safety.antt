@@ -16,7 +16,7 @@ use Rattle.tables.specs.Tables.{countOf, segmentAt}
 use Rattle.tables.specs.Facts.{IsSegment, Follows, Consistent}
 use Rattle.trains.specs.declared.Train.{Train}
 use Rattle.trains.specs.Due.{speedDue, requestDue, grantDue, positionDue}
-use Rattle.trains.specs.Train.{entered, withSpeed, asking, withAsking, movedTo, ownIn, ownOf, nextIn, nextOf, ownLength, ownLimit, nextLimit, near, holdsNext, occupied, ahead}
+use Rattle.trains.specs.Train.{entered, withSpeed, asking, withAsking, answered, movedTo, ownIn, ownOf, nextIn, nextOf, ownLength, ownLimit, nextLimit, near, holdsNext, occupied, ahead}
 use Rattle.trains.specs.Spot.{spotOf}
 use Rattle.trains.specs.Cycle.{low, upperEnd, newSpeed, wants, movesIn, movesOn, moved, movedIn, released}
 use Rattle.trains.specs.Sound.{toRun}
@@ -243,23 +243,23 @@ module _ (T : Tables) (K : Consistent T) where
 
   -- ---- grant: a train may gain what lies ahead of it, and loses nothing
   pub grant-ok :
-      {held held′ : ℕ → ℕ} {t : ℕ} {x : Train} {way : ℕ} {got got′ : ℕ → Bool}
+      {held held′ : ℕ → ℕ} {t : ℕ} {x : Train} {way : ℕ} {got got′ : ℕ → Bool} {c : ℕ}
       → TrainOk T grantDue held t x way got
       → ((s : ℕ) → held s ≡ t → held′ s ≡ t)
       → ((s : ℕ) → held′ s ≡ t → (held s ≡ t) ⊎ ((ahead T x s ≡ true) × (got′ s ≡ true)))
       → ((s : ℕ) → got s ≡ true → got′ s ≡ true)
-      → TrainOk T positionDue held′ t (withAsking x false) way got′
+      → TrainOk T positionDue held′ t (answered x c) way got′
   unfolding ownIn nextIn
-  grant-ok {held} {held′} {t} {x} {way} {got} {got′} ok to from g =
+  grant-ok {held} {held′} {t} {x} {way} {got} {got′} {c} ok to from g =
       let later : holdsNext T held t x ≡ false → x .position + S (T .braking) (x .speed) < ownLength T x =
       λ e. rw (run-later (T .braking) grantDue (x .speed) (omega arith)) at (ok .stops e) in
       record {
         onRoute = ok .onRoute;
         inside = ok .inside;
         slow = ok .slow;
-        holds = holds-there T held′ t x (withAsking x false) got′ refl refl (λ s e. to s (ok .holds s e));
+        holds = holds-there T held′ t x (answered x c) got′ refl refl (λ s e. to s (ok .holds s e));
         only =
-            only-there T held′ t x (withAsking x false) got′ refl refl
+            only-there T held′ t x (answered x c) got′ refl refl
             (λ s e. cases (from s e) (λ q. cases (ok .only s q) (λ r. inl r) (λ r. inr (r .0, g s (r .1)))) (λ q. inr q));
         stops = λ o. rw (run-later (T .braking) positionDue (x .speed) (omega arith)) (later (holds-not held held′ t x to o));
         nextSlow =

@@ -65,9 +65,9 @@ place-facts R p x e =
     let f = simp facts at e in (f .0 .0 .0 .0 .0, f .0 .0 .0 .0 .1, f .0 .0 .0 .1, f .0 .0 .1, f .0 .1, f .1)
 
 off-by :
-    (r p i v q : ℕ) → r ≡ 0 → p ≡ 0 → i ≡ 0 → v ≡ 0 → q ≡ 0
-    → record { route = r; place = p; position = i; speed = v; asks = q } ≡ off
-off-by r p i v q a b c d e = rw (a, b, c, d, e)
+    (r p i v q n : ℕ) → r ≡ 0 → p ≡ 0 → i ≡ 0 → v ≡ 0 → q ≡ 0 → n ≡ 0
+    → record { route = r; place = p; position = i; speed = v; asks = q; count = n } ≡ off
+off-by r p i v q n a b c d e f = rw (a, b, c, d, e, f)
 
 module _ (T : Tables) (A : List ℕ) (due t : ℕ) (x : Train) where
   abbrev here : Spot
@@ -120,9 +120,9 @@ module _ (T : Tables) (A : List ℕ) (due t : ℕ) (x : Train) where
   off-iff z = (
     λ e.
         let h : offSound x ≡ true = rw z at e in
-        let f = simp and-iff at h in
-        off-by (x .route) (x .place) (x .position) (x .speed) (x .asks) z
-        (eqb-true (x .place) 0 (f .0 .0 .0)) (eqb-true (x .position) 0 (f .0 .0 .1)) (eqb-true (x .speed) 0 (f .0 .1)) (eqb-true (x .asks) 0 (f .1)),
+        let f = simp facts at h in
+        off-by (x .route) (x .place) (x .position) (x .speed) (x .asks) (x .count) z (omega (arith, f)) (omega (arith, f)) (omega (arith, f))
+        (omega (arith, f)) (omega (arith, f)),
     λ e. rw e,
   )
 

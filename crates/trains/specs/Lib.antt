@@ -2,7 +2,9 @@ pub mod Due
 pub mod Train
 pub mod Spot
 pub mod Cycle
+pub mod Order
 pub mod Grant
+pub mod GrantFacts
 pub mod EnterLeave
 pub mod Sound
 pub mod SoundFacts

@@ -15,9 +15,9 @@ use Rattle.trains.specs.Train.{asking, trainAt, isOn, occupiedIn, aheadI
 use Rattle.trains.specs.Spot.{spotOf}
 use Rattle.trains.specs.Cycle.{wants}
 
--- a train off is all zero
+-- a train off is all zero: "a train off has count 0" too
 abbrev pub offSound : Train → Bool
-offSound x = eqb (x .place) 0 && eqb (x .position) 0 && eqb (x .speed) 0 && eqb (x .asks) 0
+offSound x = eqb (x .place) 0 && eqb (x .position) 0 && eqb (x .speed) 0 && eqb (x .asks) 0 && eqb (x .count) 0
 
 -- a train on: route 1 to R, place 1 to the route's count, position < length, speed ≤ limit; its own segment is allocated to it
 unfoldable pub placeSound : (R : ℕ) → Spot → Train → Bool

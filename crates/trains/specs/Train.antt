@@ -1,4 +1,5 @@
--- A train of an area: the five forms in which one is written, and what is said of one (document 01, "The calls").
+-- A train of an area: the six forms in which one is written, and what is said of one (document 01, "The calls";
+-- document 02, R-2).
 -- T are the tables of the area, t the number of the train, x the train, s a segment.
 use Prim.Native.Nat.{ℕ, _+_, _-_}
 use mathlib.Core.Bool.{Bool, _&&_}
@@ -15,25 +16,30 @@ mostTrains = 24
 
 -- a train off: all zero
 abbrev pub off : Train
-off = record { route = 0; place = 0; position = 0; speed = 0; asks = 0 }
+off = record { route = 0; place = 0; position = 0; speed = 0; asks = 0; count = 0 }
 
--- a train that enters: position 0 of the route's first segment
+-- a train that enters: position 0 of the route's first segment; "the count is 0 at enter"
 abbrev pub entered : ℕ → ℕ → Train
-entered r v = record { route = r; place = 1; position = 0; speed = v; asks = 0 }
+entered r v = record { route = r; place = 1; position = 0; speed = v; asks = 0; count = 0 }
 
 -- asking as a number: 1 where it asks, 0 where it does not
 abbrev pub asking : Bool → ℕ
 asking q = if q then 1 else 0
 
--- a train with another speed, with another asking, and further on: at place p of its route, position i there
+-- a train with another speed, and with another asking
 abbrev pub withSpeed : Train → ℕ → Train
-withSpeed x v = record { route = x .route; place = x .place; position = x .position; speed = v; asks = x .asks }
+withSpeed x v = record { route = x .route; place = x .place; position = x .position; speed = v; asks = x .asks; count = x .count }
 
 abbrev pub withAsking : Train → Bool → Train
-withAsking x q = record { route = x .route; place = x .place; position = x .position; speed = x .speed; asks = asking q }
+withAsking x q = record { route = x .route; place = x .place; position = x .position; speed = x .speed; asks = asking q; count = x .count }
 
+-- a train that asks no more and counts c
+abbrev pub answered : Train → ℕ → Train
+answered x c = record { route = x .route; place = x .place; position = x .position; speed = x .speed; asks = 0; count = c }
+
+-- a train further on: at place p of its route, position i there
 abbrev pub movedTo : Train → ℕ → ℕ → Train
-movedTo x p i = record { route = x .route; place = p; position = i; speed = x .speed; asks = x .asks }
+movedTo x p i = record { route = x .route; place = p; position = i; speed = x .speed; asks = x .asks; count = x .count }
 
 -- the train of a number; a train off where there is none
 abbrev pub trainAt : List Train → ℕ → Train

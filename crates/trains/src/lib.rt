@@ -1,11 +1,12 @@
 // A train of an area by value, and where one stands.
 
 // Route and place are counted from 1; route 0 is a train off, which is all zero. Position in decimetres, speed in decimetres
-// per cycle. Asks: 1 where it does, 0 where it does not.
+// per cycle. Asks: 1 where it does, 0 where it does not. Count: the grant steps at which it asked and got nothing.
 #[repr(C)]
 pub struct Train {
     pub route: u8,
     pub place: u8,
+    pub count: u16,
     pub position: u32,
     pub speed: u16,
     pub asks: u8,

@@ -12,7 +12,7 @@ use std::time::Instant;
 
 /// What a call on a kept record may take, as a part of the same call inside a run.
 const MOST_OF_A_RUN: f64 = 1.3;
-/// What a write of the core may take, as a part of the second program's.
+/// What a write and a call of the core may take, as a part of the second program's.
 const MOST_OF_THE_SECOND: f64 = 1.0;
 
 /// The mean of so many turns, in microseconds.
@@ -99,7 +99,7 @@ fn one_call(name: String, file: &[u8], area: &Area, call: &Call) -> Times {
         (call.map(|call| area.call(call)), area)
     };
     let (mut cores, mut kepts, mut seconds) = (vec![], vec![], vec![]);
-    for _ in 0..201 {
+    for _ in 0..1001 {
         cores.push(beyond(&mut || core_run(&script), &mut || core_run(&[])));
         kepts.push(beyond(&mut || kept_run(Some(call)), &mut || kept_run(None)));
         seconds.push(beyond(&mut || second_run(Some(call)), &mut || second_run(None)));
@@ -149,6 +149,22 @@ fn calls(name: &str, description: &Description, trains: u16) -> Vec<Times> {
     times
 }
 
+/// The grant step with all trains asking, two for each segment: with equal counts, and with higher counts for the lower numbers.
+fn grants() -> Vec<Times> {
+    let file = merging_area().file();
+    let mut area = running(&file, TRAINS.into());
+    AREA_A_CYCLE[..2].iter().for_each(|call| assert_eq!(area.call(call), 0));
+    let record = area.record();
+    assert!(record.trains.iter().all(|train| train.asks == 1), "all trains ask");
+    let with_counts = |name: &str, count: fn(u8) -> u16| {
+        let mut record = record;
+        (1..).zip(&mut record.trains).for_each(|(number, train)| train.count = count(number));
+        let area = Area::from_record(&record).expect("the record is sound");
+        one_call(format!("grant, full area, all ask, {name}"), &file, &area, &Call::Grant)
+    };
+    vec![with_counts("counts equal", |_| 0), with_counts("counts fall", |number| (TRAINS - number).into())]
+}
+
 /// A list of calls, by call: from the file by all three, in one run, call by call on a kept record, and with the second program.
 fn replay(name: &str, description: &Description, trains: u16) -> Times {
     let file = description.file();
@@ -191,6 +207,7 @@ fn main() {
     let writes = [writes("Area A", &area_a(), 2), writes("full area", &full_area(), TRAINS.into())];
     let mut times = calls("Area A", &area_a(), 2);
     times.extend(calls("full area", &full_area(), TRAINS.into()));
+    times.extend(grants());
     times.push(replay("Area A", &area_a(), 2));
     times.push(replay("full area", &full_area(), TRAINS.into()));
     times.iter().for_each(|one| line(&one.name, one.core, one.second));
@@ -201,11 +218,15 @@ fn main() {
     if slow_write {
         println!("bench: a write of the core takes over {MOST_OF_THE_SECOND:.1} of the second program's");
     }
-    let slow_call = times.iter().any(|one| one.kept > MOST_OF_A_RUN * one.core);
-    if slow_call {
+    let slow_calls: Vec<&Times> = times.iter().filter(|one| one.core > MOST_OF_THE_SECOND * one.second).collect();
+    for one in &slow_calls {
+        println!("bench: {}: over {MOST_OF_THE_SECOND:.1} of the second program's", one.name);
+    }
+    let slow_kept = times.iter().any(|one| one.kept > MOST_OF_A_RUN * one.core);
+    if slow_kept {
         println!("bench: a call on a kept record takes over {MOST_OF_A_RUN} of the same call inside a run");
     }
-    if slow_write || slow_call {
+    if slow_write || !slow_calls.is_empty() || slow_kept {
         std::process::exit(1);
     }
 }

@@ -13,7 +13,7 @@ use Rattle.area.proofs.grant_found.Tie as tie
 
 -- the parts that the call is handed are those of the record a
 abbrev Given : tie.Start → Area → Type 0
-Given s a = let i = s .args in Parts a (i .found) (i .allocations) (i .trains) (i .due)
+Given s a = let i = s .args in Parts a (i .found) (i .t3) (i .trains) (i .due)
 
 refusal : (c : tie.After-step-refusal) (a : Area) → Given (c .before) a → c .step-refusal .result ≡ firstOf (stepTests grantDue a) .number
 refusal c a h = rw (ap (λ (x : Examined). x .ok) (h .found), h .due) at (c .step-refusal .ensures)
@@ -27,10 +27,10 @@ returns c a h e =
 returns-2 : tie.Need-returns-2
 unfolding grantCall afterGrant
 returns-2 c a h e =
-    let g = c .before in
+    let g = c .before .before .before in
     let p = g .before in
     let allocations = rw (h .trains, h .allocations) at (g .granted-all .ensures (a .tables) (sym e)) in
-    let trains = rw (h .trains) at (c .calmed-all .ensures) in
+    let trains = rw (allocations, h .trains, h .allocations) at (c .calmed-all .ensures (a .tables) (sym e)) in
     change-by 0 (record { tables = a .tables; allocations = g .granted-all .result; trains = c .calmed-all .result; due = 3 })
     (finished-by (stepTests grantDue a) (refusal (p .before) a h) (afterGrant a) a refl (p .if1 .left) (simp (trains, allocations)))
 

@@ -26,18 +26,9 @@ mul-x c = omega arith
 array-copy-out-x : tie.Need-array-copy-out-x Inv-loop μ-loop
 array-copy-out-x c = omega arith
 
-own-of-requires : tie.Need-own-of-requires Inv-loop μ-loop
-own-of-requires c κs = search needs
-
-cast-entry-u32 : tie.Need-cast-entry-u32 Inv-loop μ-loop
-cast-entry-u32 c = search needs
-
-entry-u32-requires : tie.Need-entry-u32-requires Inv-loop μ-loop
-entry-u32-requires c κs = search needs
-
-moved-train-requires : tie.Need-moved-train-requires Inv-loop μ-loop
-moved-train-requires c κs =
-    let l = c .before .before .before .before .before in
+moved-by-requires : tie.Need-moved-by-requires Inv-loop μ-loop
+moved-by-requires c κs =
+    let l = c .before .before in
     rw (nth-index off _ (l .loop .i)) at (l .before .pre (l .loop .i + 1))
 
 mul-new : tie.Need-mul-new Inv-loop μ-loop
@@ -54,10 +45,8 @@ loop-less c = omega arith
 
 loop-again : tie.Need-loop-again Inv-loop μ-loop
 loop-again c =
-    let own = c .before .before .before in
-    let test = own .before .before in
-    make-more (test .before .loop .inv) _ (test .loop-test .taken)
-    (rw (rw (own .own-of .ensures) at (c .before .entry-u32 .ensures)) at (c .moved-train .ensures))
+    let test = c .before .before in
+    make-more (test .before .loop .inv) _ (test .loop-test .taken) (c .moved-by .ensures)
 
 returns : tie.Need-returns Inv-loop μ-loop
 returns c = make-over (c .before .loop .inv) (c .loop-test .left)
@@ -71,10 +60,7 @@ moved-all-spec =
     loop-holds
     mul-x
     array-copy-out-x
-    own-of-requires
-    cast-entry-u32
-    entry-u32-requires
-    moved-train-requires
+    moved-by-requires
     mul-new
     array-set-from-new
     add-i

@@ -1,21 +1,24 @@
--- The loop fills the array place by place: each turn ends the asking of one train.
-use Prim.Native.Nat.{ℕ, _-_}
+-- The loop fills the array place by place: each turn ends the asking of one train, whatever tables have the routes that are lent.
+use Prim.Native.Nat.{_-_}
+use mathlib.Core.Path.{_≡_}
 use native.Mathlib.Omega.{arith}
 use borrow.Author.Needs.{needs}
 use Rattle.lists.proofs.Numbered.{long-of}
+use Rattle.tables.specs.declared.Tables.{Tables}
 use Rattle.trains.specs.Grant.{calmed}
 use Rattle.lists.proofs.Loops.{Made, make-begin, make-more, make-over}
 use Rattle.grant.proofs.calmed_all.Statement.{statement}
 use Rattle.grant.proofs.calmed_all.Tie as tie
 
 abbrev Inv-loop : tie.InvT-loop
-Inv-loop trains new₀ i₀ new i = Made 24 (λ (t : ℕ). calmed) trains trains i new
+Inv-loop routebytes before after trains new₀ i₀ new i =
+    (T : Tables) → T .routebytes ≡ routebytes → Made 24 (calmed T before after) trains trains i new
 
 abbrev μ-loop : tie.MeasureT-loop
-μ-loop trains new₀ i₀ new i = 24 - i
+μ-loop routebytes before after trains new₀ i₀ new i = 24 - i
 
 loop-holds : tie.Need-loop-holds Inv-loop μ-loop
-loop-holds c = make-begin (search long-of) (search long-of)
+loop-holds c T same = make-begin (search long-of) (search long-of)
 
 mul-x : tie.Need-mul-x Inv-loop μ-loop
 mul-x c = omega arith
@@ -23,8 +26,14 @@ mul-x c = omega arith
 array-copy-out-x : tie.Need-array-copy-out-x Inv-loop μ-loop
 array-copy-out-x c = omega arith
 
-with-asking-requires : tie.Need-with-asking-requires Inv-loop μ-loop
-with-asking-requires c κs = search needs
+add-calmed-one : tie.Need-add-calmed-one Inv-loop μ-loop
+add-calmed-one c = omega arith
+
+cast-calmed-one : tie.Need-cast-calmed-one Inv-loop μ-loop
+cast-calmed-one c = omega arith
+
+calmed-one-requires : tie.Need-calmed-one-requires Inv-loop μ-loop
+calmed-one-requires c κs = search needs
 
 mul-new : tie.Need-mul-new Inv-loop μ-loop
 mul-new c = omega arith
@@ -39,12 +48,12 @@ loop-less : tie.Need-loop-less Inv-loop μ-loop
 loop-less c = omega arith
 
 loop-again : tie.Need-loop-again Inv-loop μ-loop
-loop-again c =
-    make-more (c .before .before .before .loop .inv) _ (c .before .before .loop-test .taken)
-    (c .with-asking .ensures)
+loop-again c T same =
+    make-more (c .before .before .before .loop .inv T same) _ (c .before .before .loop-test .taken)
+    (c .calmed-one .ensures T same)
 
 returns : tie.Need-returns Inv-loop μ-loop
-returns c = make-over (c .before .loop .inv) (c .loop-test .left)
+returns c T same = make-over (c .before .loop .inv T same) (c .loop-test .left)
 
 pub calmed-all-spec : {M : Type 1} → statement M
 calmed-all-spec =
@@ -55,7 +64,9 @@ calmed-all-spec =
     loop-holds
     mul-x
     array-copy-out-x
-    with-asking-requires
+    add-calmed-one
+    cast-calmed-one
+    calmed-one-requires
     mul-new
     array-set-from-new
     add-i

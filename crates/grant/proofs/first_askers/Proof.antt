@@ -1,4 +1,4 @@
--- After each turn every segment has the least of the trains so far that ask for it: the next train gets only what none before it asked for.
+-- After each turn every segment has, of the trains so far that ask for it, the one that goes before the others.
 use Prim.Native.Nat.{_-_, _≤_}
 use mathlib.Core.Path.{_≡_, ap, _∙_}
 use native.Mathlib.Omega.{arith}
@@ -12,13 +12,13 @@ use Rattle.grant.proofs.first_askers.Statement.{statement}
 use Rattle.grant.proofs.first_askers.Tie as tie
 
 abbrev Inv-loop : tie.InvT-loop
-Inv-loop asked first₀ i₀ first i = (i ≤ mostTrains) × (first ≡ tabulate 62 (askerOf asked i))
+Inv-loop asked counts first₀ i₀ first i = (i ≤ mostTrains) × (first ≡ tabulate 62 (askerOf counts asked i))
 
 abbrev μ-loop : tie.MeasureT-loop
-μ-loop asked first₀ i₀ first i = mostTrains - i
+μ-loop asked counts first₀ i₀ first i = mostTrains - i
 
 loop-holds : tie.Need-loop-holds Inv-loop μ-loop
-loop-holds c = (omega arith, askers-begin _)
+loop-holds c = (omega arith, askers-begin _ _)
 
 slice-aggregate-offer : tie.Need-slice-aggregate-offer Inv-loop μ-loop
 slice-aggregate-offer c =
@@ -50,7 +50,7 @@ loop-less c = omega arith
 loop-again : tie.Need-loop-again Inv-loop μ-loop
 loop-again c =
     let l = c .before .before .before .before .before .before in
-    (omega arith, c .before .offer .ensures ∙ askers-more _ _ _ (c .before .before .entry-u8 .ensures) _ (l .loop .inv .1))
+    (omega arith, c .before .offer .ensures ∙ askers-more _ _ _ _ (c .before .before .entry-u8 .ensures) _ (l .loop .inv .1))
 
 returns : tie.Need-returns Inv-loop μ-loop
 returns c =

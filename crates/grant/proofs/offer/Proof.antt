@@ -1,9 +1,8 @@
--- A segment that the list has no place for changes nothing; of any other the one entry stays or, where it is 0, becomes t.
+-- A segment that the list has no place for changes nothing; of any other the one entry stays or becomes t.
 use mathlib.Core.Logic.{inl, inr}
 use mathlib.Core.Path.{sym}
 use native.Mathlib.Omega.{arith}
 use borrow.Author.Needs.{needs}
-use Rattle.lists.specs.Words.{at, _orElse_}
 use denote.Ref.{now}
 use Rattle.lists.proofs.Numbered.{store-each, store-none, nth-in}
 use Rattle.grant.proofs.offer.Statement.{statement}
@@ -18,11 +17,11 @@ returns-2 c = sym (store-none _ _ _ (inr (omega arith)))
 sub-i : tie.Need-sub-i
 sub-i c = omega arith
 
-slice-read-held-or : tie.Need-slice-read-held-or
-slice-read-held-or c = omega arith
+slice-read-first-of-two : tie.Need-slice-read-first-of-two
+slice-read-first-of-two c = omega arith
 
-held-or-requires : tie.Need-held-or-requires
-held-or-requires c κs = search needs
+first-of-two-requires : tie.Need-first-of-two-requires
+first-of-two-requires c κs = search needs
 
 slice-write-first : tie.Need-slice-write-first
 slice-write-first c = omega arith
@@ -33,7 +32,7 @@ same-length c = search needs
 returns-3 : tie.Need-returns-3
 returns-3 c =
     let a = c .before .before .before .before .before .args in
-    rw (c .held-or .ensures, ← (nth-in 0 (now (a .first)) (a .s) (omega arith))) (store-each (now (a .first)) (a .s) (at (now (a .first)) (a .s) orElse a .t) (omega arith) (omega arith))
+    rw (c .first-of-two .ensures, ← (nth-in 0 (now (a .first)) (a .s) (omega arith))) (store-each (now (a .first)) (a .s) _ (omega arith) (omega arith))
 
 pub offer-spec : {M : Type 1} → statement M
-offer-spec = tie.close (tie.spec returns returns-2 sub-i slice-read-held-or held-or-requires slice-write-first same-length returns-3)
+offer-spec = tie.close (tie.spec returns returns-2 sub-i slice-read-first-of-two first-of-two-requires slice-write-first same-length returns-3)

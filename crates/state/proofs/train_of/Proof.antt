@@ -47,15 +47,53 @@ add-byte-2 c = search needs
 byte-requires-3 : tie.Need-byte-requires-3
 byte-requires-3 c κs = search needs
 
+cast-two-at-2 : tie.Need-cast-two-at-2
+cast-two-at-2 c = search needs
+
+add-two-at-2 : tie.Need-add-two-at-2
+add-two-at-2 c = search needs
+
+two-at-requires-2 : tie.Need-two-at-requires-2
+two-at-requires-2 c κs = search needs
+
 returns : tie.Need-returns
 unfolding trainOf
 returns c =
-    let h = c .before in
-    let w = h .before in
-    let p = w .before in
-    let i = p .before .before .before .args .i in
+    let q = c .before in
+    let v = q .before in
+    let p = v .before in
+    let k = p .before in
+    let i = k .before .before .before .args .i in
     let e : i + 1 - 1 ≡ i = omega arith in
-    rw e (simp (p .before .byte .ensures, p .byte2 .ensures, w .four-at .ensures, h .two-at .ensures, c .byte3 .ensures, add-zero))
+    rw e
+    (simp (
+      k .before .byte .ensures,
+      k .byte2 .ensures,
+      p .four-at .ensures,
+      v .two-at .ensures,
+      q .byte3 .ensures,
+      c .two-at2 .ensures,
+      add-zero,
+    ))
 
 pub train-of-spec : {M : Type 1} → statement M
-train-of-spec = tie.close (tie.spec mul-start add-start cast-at byte-requires add-byte byte-requires-2 add-four-at four-at-requires cast-two-at add-two-at two-at-requires add-byte-2 byte-requires-3 returns)
+train-of-spec =
+    tie.close
+    (tie.spec
+    mul-start
+    add-start
+    cast-at
+    byte-requires
+    add-byte
+    byte-requires-2
+    add-four-at
+    four-at-requires
+    cast-two-at
+    add-two-at
+    two-at-requires
+    add-byte-2
+    byte-requires-3
+    cast-two-at-2
+    add-two-at-2
+    two-at-requires-2
+    returns)

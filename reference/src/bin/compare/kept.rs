@@ -14,6 +14,7 @@ const RECORDS: u64 = 200_000;
 const DAMAGED: u64 = 20_000;
 const RANDOM: u64 = 5_000;
 const UNSOUND_BY_ASKS: u64 = 5_000;
+const UNSOUND_BY_COUNTS: u64 = 15_000;
 
 /// One refused start in so many has its blank record sent back out.
 const BLANK_EACH: u64 = 16;
@@ -30,12 +31,13 @@ pub struct Seen {
     answers: Answers,
     records: u64,
     /// of these records: some bytes of them overwritten, still sound after it, and that with other tables; all bytes random; unsound by
-    /// a train's asking alone
+    /// a train's asking alone; unsound by counts of trains off alone
     damaged: u64,
     damaged_sound: u64,
     damaged_tables: u64,
     random: u64,
     unsound_by_asks: u64,
+    unsound_by_counts: u64,
     sent: sent::Seen,
 }
 
@@ -109,6 +111,7 @@ impl Seen {
             damaged_tables: 0,
             random: 0,
             unsound_by_asks: 0,
+            unsound_by_counts: 0,
             sent: sent::Seen::new(seed),
         }
     }
@@ -223,6 +226,7 @@ impl Seen {
         self.call(&what, kept, call, number, &after);
         self.records += 1;
         self.unsound_by_asks += u64::from(!is_sound && sound_but_for_asks(record));
+        self.unsound_by_counts += u64::from(!is_sound && sound_but_for_counts(record));
         is_sound
     }
 
@@ -238,6 +242,7 @@ impl Seen {
         counted("kept: records with bytes overwritten, still sound", self.damaged_sound, 1);
         counted("kept: records of random bytes", self.random, RANDOM);
         counted("kept: unsound by asks", self.unsound_by_asks, UNSOUND_BY_ASKS);
+        counted("kept: unsound by counts of trains off", self.unsound_by_counts, UNSOUND_BY_COUNTS);
         self.sent.print();
         counted("sent: sound records with bytes of the tables overwritten, written and loaded", self.damaged_tables, 1);
     }
@@ -258,4 +263,11 @@ fn sound_but_for_asks(record: &Record) -> bool {
         sound(&record)
     };
     record.trains.iter().any(|train| train.asks > 1) && (with(0) || with(1))
+}
+
+/// A record that would be sound if its trains off had no counts.
+fn sound_but_for_counts(record: &Record) -> bool {
+    let mut without = *record;
+    without.trains.iter_mut().filter(|train| !train.is_on()).for_each(|train| train.count = 0);
+    without != *record && sound(&without)
 }

@@ -132,14 +132,14 @@ fn note_speed(counts: &mut [u64; SPEEDS.len()], speed: u16, limit: u16) {
 }
 
 /// One list from one accepted file, run by both programs call by call.
-struct List {
+pub struct List {
     seed: u64,
     /// which of the lists, from 1
     which: u64,
     file: Vec<u8>,
     area: Area,
     /// the second program's
-    record: Record,
+    pub record: Record,
     demand: Demand3,
     /// the core's, kept from call to call
     kept: Kept,
@@ -150,7 +150,7 @@ struct List {
 }
 
 impl List {
-    fn new(seed: u64, which: u64, area: &Description, kept: &mut kept::Seen) -> List {
+    pub fn new(seed: u64, which: u64, area: &Description, kept: &mut kept::Seen) -> List {
         let file = area.file();
         let area = loaded(seed, &file);
         let record = area.record();
@@ -166,7 +166,7 @@ impl List {
     /// The next call: the core has it on the record that it handed back last, and on the one that it keeps. "The built calls give the
     /// same answers, and the record handed back holds the same trains on, routes, step due, speeds and allocations": here the whole
     /// state; then demand 3.
-    fn call(&mut self, owned: Owned, kept: &mut kept::Seen) -> u8 {
+    pub fn call(&mut self, owned: Owned, kept: &mut kept::Seen) -> u8 {
         let (list, call) = (self.which, self.calls.len() + 1);
         let number = self.area.call(&owned.call());
         self.record = self.area.record();
@@ -194,7 +194,7 @@ impl List {
     }
 
     /// The list in one from the file, with more room than it needs, and the report after it.
-    fn whole(&self) {
+    pub fn whole(&self) {
         let script = self.script();
         let mut answers = vec![99; self.calls.len() + 3];
         let mut state = [99; STATE_SIZE + 5];

@@ -1,10 +1,11 @@
-//! The core against the second program: braking, Area A's listing, files, lists of calls, records, and the file sent back out of them;
-//! each call by the functions over bytes and on a record that is kept. Seeded and repeatable; it prints counts, and ends with status 1 at
+//! The core against the second program: braking, Area A's listing, files, lists of calls, records, grants at merges, and the file sent
+//! back out of them; each call by the functions over bytes and on a record that is kept. Seeded and repeatable; it prints counts, and ends with status 1 at
 //! the first difference and at a count that is too low.
 //!
 //!     compare             the whole comparison
 //!     compare SEED        the same with another seed
 mod files;
+mod grants;
 mod kept;
 mod lists;
 mod records;
@@ -100,6 +101,7 @@ fn main() {
     files::compare(seed, &mut kept);
     lists::compare(seed, &mut kept);
     records::compare(seed, &mut kept);
+    grants::compare(seed, &mut kept);
     kept.print();
     println!("compare: no difference");
 }

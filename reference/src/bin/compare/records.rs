@@ -79,22 +79,11 @@ impl Seen {
             Kind::Of(k) => KINDS[k],
             Kind::At(k) => EDGES[k].name,
         };
-        let mut state = state_of(record);
-        let is_sound = sound(record);
-        same(self.seed, format_args!("a record's soundness ({what})"), rbu::bytes::sound(file, &state), is_sound);
+        let call = random::call(random, area, record.due);
+        let (is_sound, number, _) = both_ways(self.seed, what, file, record, &call.call(), kept);
         if made.sound.is_some_and(|known| known != is_sound) {
             fail(format_args!("a record's soundness ({what}): both programs say {is_sound} (seed {})", self.seed));
         }
-        let (number, allocated, free) = report_on(record);
-        let report = rbu::bytes::report_record(file, &state);
-        same(self.seed, format_args!("a record's report ({what})"), report, (number, allocated as u8, free as u8));
-        let call = random::call(random, area, record.due);
-        let (number, after) = call_on(record, &call.call());
-        let mut answer = [99];
-        let ran = rbu::bytes::run_record(file, &items_of(&call.call()), &mut answer, &mut state);
-        same(self.seed, format_args!("a call on a record ({what})"), (ran, answer[0]), (1, number));
-        same_bytes(self.seed, format_args!("the state after a call on a record ({what})"), &state, &state_of(&after));
-        kept.record(format_args!("a record ({what})"), record, &call.call());
         if self.records.is_multiple_of(SENT_EACH) {
             kept.written(format_args!("a record ({what})"), &Kept::of(record), file, whole, record);
         }
@@ -122,6 +111,24 @@ impl Seen {
             counted(format_args!("records: answer {number}"), self.answers[number], 1);
         }
     }
+}
+
+/// Any record, as bytes and kept: its soundness, its report, and a call. What the second program says: its soundness, the call's answer
+/// and the record handed back.
+pub fn both_ways(seed: u64, what: &str, file: &[u8], record: &Record, call: &Call, kept: &mut kept::Seen) -> (bool, u8, Record) {
+    let mut state = state_of(record);
+    let is_sound = sound(record);
+    same(seed, format_args!("a record's soundness ({what})"), rbu::bytes::sound(file, &state), is_sound);
+    let (number, allocated, free) = report_on(record);
+    let report = rbu::bytes::report_record(file, &state);
+    same(seed, format_args!("a record's report ({what})"), report, (number, allocated as u8, free as u8));
+    let (number, after) = call_on(record, call);
+    let mut answer = [99];
+    let ran = rbu::bytes::run_record(file, &items_of(call), &mut answer, &mut state);
+    same(seed, format_args!("a call on a record ({what})"), (ran, answer[0]), (1, number));
+    same_bytes(seed, format_args!("the state after a call on a record ({what})"), &state, &state_of(&after));
+    kept.record(format_args!("a record ({what})"), record, call);
+    (is_sound, number, after)
 }
 
 /// A record with the area's tables or others; none where what was drawn is not to be had.
@@ -175,7 +182,7 @@ fn of_random_bytes(random: &mut Random, mut file: Vec<u8>) -> Made {
 fn spoil(random: &mut Random, record: &mut Record) {
     let t = random.within(0, u64::from(TRAINS) - 1) as usize;
     let train = &mut record.trains[t];
-    match random.draw() % 12 {
+    match random.draw() % 13 {
         0 => train.route = random.edgy(0, u64::from(ROUTES) + 1) as u8,
         1 => train.place = random.edgy(0, u64::from(ROUTE_SEGMENTS) + 1) as u8,
         2 => train.position = random.edgy(0, LONGEST.into()) as u32,
@@ -186,6 +193,7 @@ fn spoil(random: &mut Random, record: &mut Record) {
         7 | 8 => record.allocations[random.within(0, u64::from(SEGMENTS) - 1) as usize] = random.edgy(0, u64::from(TRAINS) + 1) as u8,
         9 => *train = RawTrain::OFF,
         10 => train.asks = random.edgy(2, 255) as u8,
+        11 => train.count = random::count(random),
         _ => train.position = u32::MAX,
     }
 }
