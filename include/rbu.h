@@ -74,12 +74,12 @@ enum rbu_due { RBU_DUE_SPEED = 0, RBU_DUE_REQUEST = 1, RBU_DUE_GRANT = 2, RBU_DU
 
 // The record. The caller keeps it: 2,012 bytes, aligned to 4. Its fields are there to be read; only the functions below write it.
 // Any bytes at all are a record: one that was damaged is answered RBU_ANSWER_UNSOUND, or it is sound and its calls are those of
-// document 01, but that it is the record of the run is then no longer said. Padding is never looked at, and may hold anything after a
-// call: compare two records by their fields.
+// documents 01 and 02, but that it is the record of the run is then no longer said. Padding is never looked at, and may hold anything
+// after a call: compare two records by their fields.
 
 // A train: route and place in it, counted from 1; route 0 is a train off, which is all zero. Position in its segment in decimetres,
 // speed in decimetres per cycle; asks is 1 between request and grant where it asks for its next segment, and 0 otherwise. count is at
-// how many grant steps it has asked and got nothing since it last got a segment or entered, 65,535 at the most.
+// how many grant steps it has asked and got nothing since it entered or was last granted a segment, 65,535 at the most.
 struct rbu_train {
     uint8_t route;
     uint8_t place;
@@ -132,6 +132,7 @@ uint8_t rbu_start(struct rbu_area *area, const uint8_t *file, size_t file_length
 
 // The six calls. Each returns the number of its answer; a refused one leaves the record as it was. Arguments are tested whole: train
 // 257 is refused. wishes[t - 1] is train t's, those of trains off are ignored; a count other than RBU_TRAINS is RBU_ANSWER_WISHES.
+// rbu_grant: of the trains that ask for a free segment the one whose `count` is highest gets it, of equal counts the higher number.
 uint8_t rbu_enter(struct rbu_area *area, uint16_t train, uint16_t route, uint16_t speed);
 uint8_t rbu_leave(struct rbu_area *area, uint16_t train);
 uint8_t rbu_speed(struct rbu_area *area, const uint16_t *wishes, size_t count);

@@ -31,7 +31,7 @@ pub fn tables_of(tables: &Tables) -> rbu::Tables {
 
 /// Trains as the core keeps them.
 pub fn trains_of(record: &Record) -> [rbu::Train; rbu::TRAINS] {
-    record.trains.map(|RawTrain { route, place, position, speed, asks, count }| rbu::Train { route, place, asks, position, speed, count })
+    record.trains.map(|RawTrain { route, place, position, speed, asks, count }| rbu::Train { route, place, count, position, speed, asks })
 }
 
 /// A record as the core keeps it.
@@ -60,7 +60,7 @@ pub fn record_of_kept(kept: &rbu::Record) -> Record {
         route.count = bytes[0];
         route.numbers.copy_from_slice(&bytes[1..]);
     }
-    let trains = kept.trains.map(|rbu::Train { route, place, asks, position, speed, count }| RawTrain {
+    let trains = kept.trains.map(|rbu::Train { route, place, count, position, speed, asks }| RawTrain {
         route,
         place,
         position,

@@ -181,8 +181,8 @@ fn many_merges_in_one_step() {
     assert_eq!(counts, [0, 5, 10, 0, 1, 0]);
 }
 
-/// A train that asks for a segment which another is just leaving does not get it in that step, and one that is granted its own next does
-/// not make way before it moves.
+/// Two trains ask for the segment that a third stands on, which is granted its own next in that step: it does not make way before it
+/// moves, and they count.
 #[test]
 fn counts_behind_a_train_that_gets_its_segment() {
     let tables = decode_tables(&merging_area().file());

@@ -103,7 +103,7 @@ fn answer(number: u8, place: u16) -> Result<(), Refusal> {
 
 /// A train: route and place in it, counted from 1; route 0 is a train off, which is all zero. Position in its segment in decimetres,
 /// speed in decimetres per cycle; `asks` is 1 between request and grant where it asks for its next segment, and 0 otherwise; `count` is
-/// at how many grant steps it has asked and got nothing since it last got a segment, 65,535 at the most.
+/// at how many grant steps it has asked and got nothing since it entered or was last granted a segment, 65,535 at the most.
 #[repr(C)]
 #[derive(Clone, Copy, PartialEq, Eq, Debug)]
 pub struct Train {
@@ -243,7 +243,8 @@ impl Area {
         answer(unsafe { rbu_request(&mut self.record) }, 0)
     }
 
-    /// The grant step: a free segment goes to the train with the highest count that asks for it, of equal counts to the higher number.
+    /// The grant step: of the trains that ask for a free segment the one with the highest count gets it, of equal counts the higher
+    /// number.
     pub fn grant(&mut self) -> Result<(), Refusal> {
         // SAFETY: the record is lent by `&mut`.
         answer(unsafe { rbu_grant(&mut self.record) }, 0)

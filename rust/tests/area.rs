@@ -82,6 +82,24 @@ fn what_a_record_holds() {
     assert_eq!([area.train(1).asks, area.train(2).asks, area.due()], [1, 0, 2]);
 }
 
+/// Two trains ask for segment 3 in the same cycle: the higher number gets it, and the other counts until it has its turn.
+#[test]
+fn turns_at_a_merge() {
+    let mut area = Area::start(AREA_A).unwrap();
+    let counts = |area: &Area| [1, 2].map(|train| area.train(train).count);
+    assert_eq!(area.enter(1, 1, 300), Ok(()));
+    (0..2).for_each(|_| cycle(&mut area));
+    assert_eq!(area.enter(2, 2, 290), Ok(()));
+    (0..3).for_each(|_| cycle(&mut area));
+    assert_eq!((area.allocated_to(3), counts(&area)), (0, [0, 0]));
+    cycle(&mut area);
+    assert_eq!((area.allocated_to(3), counts(&area)), (2, [1, 0]));
+    (0..15).for_each(|_| cycle(&mut area));
+    assert_eq!((area.segment_of(2), counts(&area), area.leave(2)), (3, [16, 0], Ok(())));
+    cycle(&mut area);
+    assert_eq!((area.allocated_to(3), counts(&area)), (1, [0, 0]));
+}
+
 #[test]
 fn refused_calls() {
     let mut area = area_a(1);

@@ -17,7 +17,7 @@ module _ (counts asked : List ℕ) where
   abbrev pub askerOf : (i s : ℕ) → ℕ
   askerOf i s = foremost (goesBefore (at counts)) i (λ (t : ℕ). eqb (at asked t) s)
 
-  -- train t asks for what train u is to be served with: which of the two is served
+  -- who is served so far is u, 0 for nobody; train t asks for the same segment: which of the two is served
   abbrev pub ofTwo : (t u : ℕ) → ℕ
   ofTwo t u = if eqb u 0 || goesBefore (at counts) t u then t else u
 

@@ -52,7 +52,7 @@ fn goes_before(counts: &[u16; 24], t: u8, u: u8) -> bool
     (other < own) | ((own == other) & (u < t))
 }
 
-// Train t asks for what train u is to be served with, or nobody where u is 0: which of the two is served.
+// Who is served so far is u, 0 for nobody; train t asks for the same segment: which of the two is served.
 fn first_of_two(counts: &[u16; 24], u: u8, t: u8) -> u8
     ensures { λ r. ⌜ r ≡ (if eqb u 0 || goesBefore (at (now (counts .entry))) t u then t else u) ⌝ }
 {
@@ -79,7 +79,7 @@ fn offer<'a>(counts: &'a [u16; 24], first: &'a mut [u8], s: u8, t: u8)
     first[i] = first_of_two(counts, first[i], t);
 }
 
-// Of each segment the train that goes before all others that ask for it; 0 where none does. One pass over the trains.
+// Of each segment the train that goes before all others that ask for it; 0 where none does.
 fn first_askers<'a>(asked: &'a [u8; 24], counts: &'a [u16; 24]) -> [u8; 62]
     ensures { λ r. ⌜ r ≡ tabulate 62 (λ s. foremost (goesBefore (at (now (counts .entry)))) mostTrains (λ t. eqb (at (now (asked .entry)) t) s)) ⌝ }
 {

@@ -126,8 +126,7 @@ fn moved_train(length: u32, x: Train) -> Train
     standing::moved_to(x, x.place, to as u32)
 }
 
-// A train after the step, and below the segment that it frees: its own where it moves on, 0 where it does not. Most trains are off most
-// of the time: there is no look-up for these.
+// A train after the step. Nothing is looked up for a train off, as most are most of the time.
 pub fn moved_by<'a>(routebytes: &'a [u8; 960], lengths: &'a [u32; 62], x: Train) -> Train
     requires { ⌜ Room x ⌝ }
     ensures { λ r. ⌜ r ≡ movedIn (at (now (lengths .entry)) (ownIn (now (routebytes .entry)) x)) x ⌝ }
@@ -140,6 +139,7 @@ pub fn moved_by<'a>(routebytes: &'a [u8; 960], lengths: &'a [u32; 62], x: Train)
     moved_train(length, x)
 }
 
+// The segment that a train frees: its own where it moves on, 0 where it does not.
 pub fn left_by<'a>(routebytes: &'a [u8; 960], lengths: &'a [u32; 62], x: Train) -> u8
     ensures { λ r. ⌜ r ≡ (if movesIn (at (now (lengths .entry)) (ownIn (now (routebytes .entry)) x)) x then ownIn (now (routebytes .entry)) x else 0) ⌝ }
 {

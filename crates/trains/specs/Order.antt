@@ -10,8 +10,8 @@ use Rattle.lists.specs.Words.{if_then_else_}
 unfoldable pub goesBefore : (count : ℕ → ℕ) → (t u : ℕ) → Bool
 goesBefore count t u = ltb (count u) (count t) || (eqb (count t) (count u) && ltb u t)
 
--- of the numbers 1 to n that pass a test, the one that goes before all others that pass it; 0 where none passes. `before` is a total
--- order
+-- for a total order `before`: of the numbers 1 to n that pass a test, the one that goes before all others that pass it; 0 where none
+-- passes
 unfoldable pub foremost : (before : ℕ → ℕ → Bool) → ℕ → (ℕ → Bool) → ℕ
 foremost before zero p = 0
 foremost before (suc n) p =

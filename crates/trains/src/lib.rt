@@ -1,7 +1,8 @@
 // A train of an area by value, and where one stands.
 
-// Route and place are counted from 1; route 0 is a train off, which is all zero. Position in decimetres, speed in decimetres
-// per cycle. Asks: 1 where it does, 0 where it does not. Count: the grant steps at which it asked and got nothing.
+// Route and place are counted from 1; route 0 is a train off, which is all zero. Count: the grant steps at which it asked and got nothing
+// since it entered or was last granted a segment, 65,535 at the most. Position in decimetres, speed in decimetres per cycle. Asks: 1
+// where it does, 0 where it does not.
 #[repr(C)]
 pub struct Train {
     pub route: u8,

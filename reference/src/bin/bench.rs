@@ -1,6 +1,6 @@
 //! The core and the second program on the same inputs, in one process: microseconds each and the ratio core / second program. Then the
-//! core alone: a call on a record that is kept, and the same call inside a run. It ends with status 1 where a write of the core takes
-//! longer than the second program's, or a call on a kept record too much longer than inside a run.
+//! core alone: a call on a record that is kept, and the same call inside a run. It ends with status 1 where a load, a write or a call of
+//! the core takes longer than the second program's, or a call on a kept record too much longer than inside a run.
 //! Both programs test the whole record at every call and at every write. In the replays and the writes the buffers, for answers and state
 //! or for the file, are not cleared between runs; for a single call the state, or the kept record, is copied anew before each run, with
 //! and without the call.
@@ -12,7 +12,7 @@ use std::time::Instant;
 
 /// What a call on a kept record may take, as a part of the same call inside a run.
 const MOST_OF_A_RUN: f64 = 1.3;
-/// What a write and a call of the core may take, as a part of the second program's.
+/// What a load, a write and a call of the core may take, as a part of the second program's.
 const MOST_OF_THE_SECOND: f64 = 1.0;
 
 /// The mean of so many turns, in microseconds.
@@ -47,9 +47,11 @@ fn line(what: &str, core: f64, second: f64) {
     println!("{what:40} {core:9.2} {second:9.2} {:8.2}", core / second);
 }
 
-fn loads(name: &str, file: &[u8]) {
+/// A load: core / second program.
+fn loads(name: &str, file: &[u8]) -> f64 {
     let (core, second) = time(2000, || rbu::bytes::load(black_box(file)), || load(black_box(file)).is_ok());
     line(&format!("load, {name}"), core, second);
+    core / second
 }
 
 /// The file sent back out of a running area, by the core from the record that it keeps: core / second program.
@@ -202,8 +204,7 @@ fn main() {
     println!("in the replays and the writes the buffers are not cleared between runs;");
     println!("for a single call the state, or the kept record, is copied anew before each run, with and without the call");
     println!("{:40} {:>9} {:>9} {:>8}", "microseconds", "core", "second", "ratio");
-    loads("Area A", &area_a().file());
-    loads("full area", &full_area().file());
+    let loads = [loads("Area A", &area_a().file()), loads("full area", &full_area().file())];
     let writes = [writes("Area A", &area_a(), 2), writes("full area", &full_area(), TRAINS.into())];
     let mut times = calls("Area A", &area_a(), 2);
     times.extend(calls("full area", &full_area(), TRAINS.into()));
@@ -214,9 +215,9 @@ fn main() {
     println!("a call on a record that is kept, and the same call inside a run");
     println!("{:40} {:>9} {:>9} {:>8}", "microseconds", "kept", "in a run", "ratio");
     times.iter().for_each(|one| line(&one.name, one.kept, one.core));
-    let slow_write = writes.iter().any(|&ratio| ratio > MOST_OF_THE_SECOND);
-    if slow_write {
-        println!("bench: a write of the core takes over {MOST_OF_THE_SECOND:.1} of the second program's");
+    let slow_file = loads.iter().chain(&writes).any(|&ratio| ratio > MOST_OF_THE_SECOND);
+    if slow_file {
+        println!("bench: a load or a write of the core takes over {MOST_OF_THE_SECOND:.1} of the second program's");
     }
     let slow_calls: Vec<&Times> = times.iter().filter(|one| one.core > MOST_OF_THE_SECOND * one.second).collect();
     for one in &slow_calls {
@@ -226,7 +227,7 @@ fn main() {
     if slow_kept {
         println!("bench: a call on a kept record takes over {MOST_OF_A_RUN} of the same call inside a run");
     }
-    if slow_write || !slow_calls.is_empty() || slow_kept {
+    if slow_file || !slow_calls.is_empty() || slow_kept {
         std::process::exit(1);
     }
 }

@@ -1,7 +1,6 @@
 -- The loop fills the array place by place: each turn moves one train, which has the room that is required of every train.
 use Prim.Native.Nat.{ℕ, _+_, _-_}
 use native.Mathlib.Omega.{arith}
-use borrow.Author.Needs.{needs}
 use Rattle.lists.specs.Words.{at}
 use Rattle.lists.proofs.Numbered.{nth-index, long-of}
 use Rattle.trains.specs.declared.Train.{Train}

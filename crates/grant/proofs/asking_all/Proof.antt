@@ -49,9 +49,10 @@ loop-less c = omega arith
 
 loop-again : tie.Need-loop-again Inv-loop μ-loop
 loop-again c =
-    let l = c .before .before in
-    (make-more (l .before .loop .inv .0) _ (l .loop-test .taken) (c .asked-by .ensures),
-    make-more (l .before .loop .inv .1) _ (l .loop-test .taken) refl)
+    let l = c .before .before in (
+      make-more (l .before .loop .inv .0) _ (l .loop-test .taken) (c .asked-by .ensures),
+      make-more (l .before .loop .inv .1) _ (l .loop-test .taken) refl,
+    )
 
 returns : tie.Need-returns Inv-loop μ-loop
 returns c =
