@@ -52,7 +52,7 @@ module _ (t s h : ℕ) where
 -- THE CLAIM: the train that enters or leaves becomes what enter and leave make of it, and no other train does
 module _ (t : ℕ) (x : Train) (n : ℕ) (old : Train) where
   pub named-becomes : n ≡ t → becomes t x n old ≡ x
-  named-becomes e = ap (λ (named : Bool). if named then x else old) (eq-eqb n t e)
+  named-becomes e = rw (eq-eqb n t e)
 
   pub others-same : (n ≡ t → ⊥) → becomes t x n old ≡ old
-  others-same e = ap (λ (named : Bool). if named then x else old) (ne-eqb n t e)
+  others-same e = rw (ne-eqb n t e)
