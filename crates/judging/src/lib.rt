@@ -5,7 +5,7 @@ ghost use lib.ListN.{length};
 ghost use Rattle.lists.specs.Words.{firstFailing};
 ghost use Rattle.lists.specs.Tests.{firstOf};
 ghost use Rattle.file.specs.Blocks.{fileSize};
-ghost use Rattle.tables.specs.Bounds.{mostSegments};
+ghost use Rattle.tables.specs.Bounds.{mostSegments, bounds};
 ghost use Rattle.reading.specs.Verdict.{headerFiled, reserved, recordOk, tableTests, readingBy, readingOf, refusedReading};
 use reading::Reading;
 use tables::MOST_SEGMENTS;
@@ -33,7 +33,7 @@ fn is_reserved(file: &[u8], i: usize) -> bool
 // The least segment record that breaks rule 6, in what the tables keep of it or in its zeros; 0 where none does.
 fn first_bad_record(file: &[u8], t: Tables) -> u8
     requires { ⌜ length (now file) ≡ fileSize ⌝ }
-    ensures { λ r. ⌜ r ≡ firstFailing mostSegments (recordOk (now (file .entry)) t) ⌝ }
+    ensures { λ r. ⌜ r ≡ firstFailing mostSegments (recordOk bounds (now (file .entry)) t) ⌝ }
 {
     let mut i: u8 = 0;
     while i < MOST_SEGMENTS {
@@ -60,7 +60,7 @@ fn refused(number: u8, place: u16) -> Reading
 // Rules 4 to 10 of a file that meets 1 to 3.
 fn judge(file: &[u8], t: Tables) -> Reading
     requires { ⌜ length (now file) ≡ fileSize ⌝ }
-    ensures { λ r. ⌜ r ≡ readingBy (firstOf (tableTests (now (file .entry)) t)) t ⌝ }
+    ensures { λ r. ⌜ r ≡ readingBy (firstOf (tableTests bounds (now (file .entry)) t)) t ⌝ }
 {
     if !(is_header_filed(file)
         & records::header_ok(t.segments, t.routes, t.gmax, t.braking, t.margin)) {

@@ -4,6 +4,7 @@ use mathlib.Core.List.{List}
 use lib.ListN.{replicate}
 use mathlib.Core.Path.{_≡_}
 use Rattle.lists.specs.Words.{if_then_else_, at}
+use Rattle.lists.specs.Tests.{Test}
 use Rattle.tables.specs.declared.Tables.{Tables}
 use Rattle.tables.specs.Tables.{blankTables}
 use Rattle.decoding.specs.Decoding.{decoded}
@@ -23,12 +24,11 @@ unfoldable pub blank : Area
 blank = record { tables = blankTables; allocations = replicate 62 0; trains = replicate 24 off; due = 0 }
 
 -- the first rule that is broken gives number and place, and the blank record; an accepted file is done and gives its tables
+abbrev pub loadedBy : Test → List ℕ → Outcome
+loadedBy t file = record { answer = answerOf (t .number) (t .place); area = if t .holds then blank else fresh (decoded file) }
+
 unfoldable pub loaded : List ℕ → Outcome
-loaded file =
-    record {
-      answer = answerOf (verdict file .number) (verdict file .place);
-      area = if verdict file .holds then blank else fresh (decoded file);
-    }
+loaded file = loadedBy (verdict file) file
 
 -- a record that is all zero
 pub record AllZero (a : Area) : Type 0 where

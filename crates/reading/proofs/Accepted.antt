@@ -14,17 +14,20 @@ use Rattle.lists.proofs.Cases.{by-test, and-iff}
 use Rattle.lists.proofs.Refusals.{passed, first-named, first-none, first-number}
 use Rattle.lists.proofs.Loops.{failing-le, failing-fails, failing-before, failing-none, none-failing}
 use Rattle.file.specs.Blocks.{blocks, fileSize, block, intact, filed, firstDamaged, firstMisfiled}
-use Rattle.tables.specs.Bounds.{mostSegments, mostRoutes}
+use Rattle.tables.specs.Bounds.{mostSegments, mostRoutes, Bounds, bounds}
 use Rattle.tables.specs.Rules.{headerOk, segmentOk, jointOk, orderOk, dropOk, routeOk}
 use Rattle.tables.specs.Facts.{Consistent}
 use Rattle.tables.proofs.Consistency.{consistent}
 use Rattle.decoding.specs.Decoding.{decoded}
-use Rattle.reading.specs.Verdict.{headerFiled, reserved, recordOk, fileTests, tableTests, verdict, accepted}
-use Rattle.reading.specs.Acceptance.{MeetsRules, LeastBroken, LeastBlock, Placed}
+use Rattle.reading.specs.Verdict.{headerFiled, reserved, recordOk, fileTests, tableTests, verdictWithin, verdict, acceptedWithin, accepted}
+use Rattle.reading.specs.Acceptance.{MeetsRulesWithin, MeetsRules, LeastBroken, LeastBlock, Placed}
 
 -- the tests of load, in the order of their numbers
+abbrev pub testsWithin : Bounds → List ℕ → List Test
+testsWithin β file = fileTests file (tableTests β file (decoded file))
+
 abbrev pub loadTests : List ℕ → List Test
-loadTests file = fileTests file (tableTests file (decoded file))
+loadTests file = testsWithin bounds file
 
 -- a scan that fails nowhere, or at some number
 module _ (n : ℕ) (ok : ℕ → Bool) where
@@ -62,20 +65,19 @@ module _ (ok : ℕ → Bool) where
         before = λ j below. back j true (l .before (j + 1) (omega arith) (omega (arith, l .from)));
       }
 
-module _ (file : List ℕ) where
+module _ (β : Bounds) (file : List ℕ) where
   -- the condition of the test of a number does not hold in an accepted file
-  passes : (n : ℕ) → verdict file .holds ≡ false → conditionOf n (loadTests file) ≡ false
-  unfolding verdict
-  passes n e = passed n (loadTests file) e
+  pub passes : (n : ℕ) → verdictWithin β file .holds ≡ false → conditionOf n (testsWithin β file) ≡ false
+  passes n e = passed n (testsWithin β file) e
 
-  accepted-meets : verdict file .holds ≡ false → MeetsRules file
+  accepted-meets : verdictWithin β file .holds ≡ false → MeetsRulesWithin β file
   unfolding firstDamaged firstMisfiled recordOk
   accepted-meets e =
       let T = decoded file in
-      let header = and-iff (headerFiled file) (headerOk T) .0 (not-false _ (passes 4 e)) in
-      let record-ok = nowhere mostSegments (recordOk file T) (passes 6 e) in
-      let segment : (s : ℕ) → 1 ≤ s → s ≤ mostSegments → (segmentOk T s ≡ true) × (reserved file s ≡ true) =
-      λ s low high. and-iff (segmentOk T s) (reserved file s) .0 (record-ok s low high) in
+      let header = and-iff (headerFiled file) (headerOk β T) .0 (not-false _ (passes 4 e)) in
+      let record-ok = nowhere mostSegments (recordOk β file T) (passes 6 e) in
+      let segment : (s : ℕ) → 1 ≤ s → s ≤ mostSegments → (segmentOk β T s ≡ true) × (reserved file s ≡ true) =
+      λ s low high. and-iff (segmentOk β T s) (reserved file s) .0 (record-ok s low high) in
       record {
         size = eqb-true (length file) fileSize (not-false _ (passes 1 e));
         checks = no-block (λ (k : ℕ). intact (block file k)) (passes 2 e);
@@ -94,25 +96,31 @@ module _ (file : List ℕ) where
             };
       }
 
-  meets-accepted : MeetsRules file → verdict file .holds ≡ false
-  unfolding verdict firstDamaged firstMisfiled recordOk
+  meets-accepted : MeetsRulesWithin β file → verdictWithin β file .holds ≡ false
+  unfolding firstDamaged firstMisfiled recordOk
   meets-accepted m =
       let T = decoded file in
       let t = m .tables in
       let r1 = eq-eqb (length file) fileSize (m .size) in
       let r2 = no-block′ (λ (k : ℕ). intact (block file k)) (m .checks) in
       let r3 = no-block′ (λ (k : ℕ). filed (block file k) k) (m .tails) in
-      let r6 = nowhere′ mostSegments (recordOk file T)
-      (λ s low high. and-iff (segmentOk T s) (reserved file s) .1 (t .segment s low high, m .zeros s low high)) in
+      let r6 = nowhere′ mostSegments (recordOk β file T)
+      (λ s low high. and-iff (segmentOk β T s) (reserved file s) .1 (t .segment s low high, m .zeros s low high)) in
       let r7 = nowhere′ (T .segments) (jointOk T) (t .joint) in
       let r8 = nowhere′ (T .segments) (orderOk T) (t .order) in
       let r9 = nowhere′ (T .segments) (dropOk T) (t .drop) in
       let r10 = nowhere′ mostRoutes (routeOk T) (t .route) in
       simp (r1, r2, r3, m .header, t .header, t .margin, r6, r7, r8, r9, r10)
 
+  -- THE CLAIM: with any bounds, a file is accepted if and only if all ten rules hold with them
+  pub accepted-within-iff : (acceptedWithin β file ≡ true) ↔ MeetsRulesWithin β file
+  accepted-within-iff = (λ e. accepted-meets (not-true (verdictWithin β file .holds) e), λ m. rw (meets-accepted m))
+
+module _ (file : List ℕ) where
   -- THE CLAIM: accepted if and only if all ten rules hold
   pub accepted-iff : (accepted file ≡ true) ↔ MeetsRules file
-  accepted-iff = (λ e. accepted-meets (not-true (verdict file .holds) e), λ m. rw (meets-accepted m))
+  unfolding verdict
+  accepted-iff = accepted-within-iff bounds file
 
   -- the number is 0 exactly where no rule is broken
   pub number-zero : eqb (verdict file .number) 0 ≡ accepted file
@@ -141,7 +149,7 @@ module _ (file : List ℕ) where
         misfiled = λ e. rw (named 3 (omega arith) e .1) (some-block (λ (k : ℕ). filed (block file k) k) (named 3 (omega arith) e .0));
         header = λ e. named 4 (omega arith) e .1;
         margin = λ e. named 5 (omega arith) e .1;
-        segment = λ e. rw (named 6 (omega arith) e .1) (somewhere mostSegments (recordOk file (decoded file)) (named 6 (omega arith) e .0));
+        segment = λ e. rw (named 6 (omega arith) e .1) (somewhere mostSegments (recordOk bounds file (decoded file)) (named 6 (omega arith) e .0));
         joint = λ e. rw (named 7 (omega arith) e .1) (somewhere (decoded file .segments) (jointOk (decoded file)) (named 7 (omega arith) e .0));
         order = λ e. rw (named 8 (omega arith) e .1) (somewhere (decoded file .segments) (orderOk (decoded file)) (named 8 (omega arith) e .0));
         drop = λ e. rw (named 9 (omega arith) e .1) (somewhere (decoded file .segments) (dropOk (decoded file)) (named 9 (omega arith) e .0));

@@ -10,7 +10,7 @@ use Rattle.file.specs.Bytes.{byteAt, zeros}
 use Rattle.file.specs.Layout.{inTail, headerBlock, inHeader, version, segmentStart, inSegment}
 use Rattle.file.specs.Blocks.{fileSize, block, firstDamaged, firstMisfiled}
 use Rattle.tables.specs.declared.Tables.{Tables}
-use Rattle.tables.specs.Bounds.{mostSegments, mostRoutes}
+use Rattle.tables.specs.Bounds.{mostSegments, mostRoutes, Bounds, bounds}
 use Rattle.tables.specs.Tables.{blankTables}
 use Rattle.tables.specs.Rules.{headerOk, marginOk, segmentOk, jointOk, orderOk, dropOk, routeOk}
 use Rattle.decoding.specs.Decoding.{segmentBlock, decoded}
@@ -28,8 +28,8 @@ unfoldable pub reserved : List ℕ → ℕ → Bool
 reserved file s = zeros (segmentBlock file s) (segmentStart s + inSegment .zeros) (segmentStart s + inSegment .zerosLast)
 
 -- rule 6 of the whole record s
-unfoldable pub recordOk : List ℕ → Tables → ℕ → Bool
-recordOk file T s = segmentOk T s && reserved file s
+unfoldable pub recordOk : Bounds → List ℕ → Tables → ℕ → Bool
+recordOk β file T s = segmentOk β T s && reserved file s
 
 -- a refusal at the first of some blocks, records, segments or routes, counted from 1; none where that is 0.
 -- A block's place is its block number, one less
@@ -48,22 +48,29 @@ fileTests file rest =
     ∷ rest
 
 -- rules 4 to 10: the tables
-abbrev pub tableTests : List ℕ → Tables → List Test
-tableTests file T =
-    not (headerFiled file && headerOk T) ⇒ 4
+abbrev pub tableTests : Bounds → List ℕ → Tables → List Test
+tableTests β file T =
+    not (headerFiled file && headerOk β T) ⇒ 4
     ∷ not (marginOk T) ⇒ 5
-    ∷ atNumber (firstFailing mostSegments (recordOk file T)) 6
+    ∷ atNumber (firstFailing mostSegments (recordOk β file T)) 6
     ∷ atNumber (firstFailing (T .segments) (jointOk T)) 7
     ∷ atNumber (firstFailing (T .segments) (orderOk T)) 8
     ∷ atNumber (firstFailing (T .segments) (dropOk T)) 9
     ∷ atNumber (firstFailing mostRoutes (routeOk T)) 10
     ∷ []
 
+-- the first rule that is broken, where rules 4 and 6 read the bounds β
+abbrev pub verdictWithin : Bounds → List ℕ → Test
+verdictWithin β file = firstOf (fileTests file (tableTests β file (decoded file)))
+
 -- the first rule that is broken
 unfoldable pub verdict : List ℕ → Test
-verdict file = firstOf (fileTests file (tableTests file (decoded file)))
+verdict file = verdictWithin bounds file
 
 -- the file meets every rule
+abbrev pub acceptedWithin : Bounds → List ℕ → Bool
+acceptedWithin β file = not (verdictWithin β file .holds)
+
 abbrev pub accepted : List ℕ → Bool
 accepted file = not (verdict file .holds)
 

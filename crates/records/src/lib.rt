@@ -3,6 +3,7 @@ ghost use mathlib.Core.Path.{_≡_};
 ghost use Prim.Native.Nat.{_≤_};
 ghost use lib.Dec.{leb};
 ghost use Rattle.braking.specs.Braking.{S};
+ghost use Rattle.tables.specs.Bounds.{bounds};
 ghost use Rattle.tables.specs.Rules.{headerIn, linksOk, usedOk, unusedOk, rowOk};
 use tables::FASTEST;
 use tables::LONGEST;
@@ -12,7 +13,7 @@ use tables::Segment;
 
 // ---- rules 4 and 5
 pub fn header_ok(segments: u8, routes: u8, gmax: u16, braking: u16, margin: u32) -> bool
-    ensures { λ r. ⌜ r ≡ headerIn segments routes gmax braking margin ⌝ }
+    ensures { λ r. ⌜ r ≡ headerIn bounds segments routes gmax braking margin ⌝ }
 {
     (1 <= segments)
         & (segments <= MOST_SEGMENTS)
@@ -42,7 +43,7 @@ fn links_ok(n: u8, first: u8, second: u8) -> bool
 
 // Of tables handed in nothing is known, so the sum is of 64 bits.
 fn used_ok(n: u8, gmax: u16, margin: u32, s: Segment) -> bool
-    ensures { λ r. ⌜ r ≡ usedOk n gmax margin s ⌝ }
+    ensures { λ r. ⌜ r ≡ usedOk bounds n gmax margin s ⌝ }
 {
     let shortest = (margin as u64) + (gmax as u64);
     let length = s.length as u64;
@@ -69,7 +70,7 @@ fn unused_ok(s: Segment) -> bool
 
 // What is kept of segment record k.
 pub fn row_ok(n: u8, gmax: u16, margin: u32, k: u8, s: Segment) -> bool
-    ensures { λ r. ⌜ r ≡ rowOk n gmax margin k s ⌝ }
+    ensures { λ r. ⌜ r ≡ rowOk bounds n gmax margin k s ⌝ }
 {
     if k <= n {
         return used_ok(n, gmax, margin, s);

@@ -9,29 +9,29 @@ use Rattle.lists.specs.Tests.{Test, _⇒_, firstOf}
 use Rattle.lists.proofs.Loops.{every-at, least-same}
 use Rattle.braking.specs.Braking.{fallingSum, S}
 use Rattle.file.specs.Bytes.{twoAt, fourAt, two, four, zeros}
-use Rattle.file.specs.Layout.{fileSize, kindOf}
+use Rattle.file.specs.Layout.{fileSize, kindOf, inSegment}
 use Rattle.file.specs.Blocks.{block, sums, intact, filed, firstDamaged, firstMisfiled}
 use Rattle.decoding.specs.Decoding.{segmentBlock, lengthIn, limitIn, linkIn, flagsIn, routeByteIn, decoded}
-use Rattle.reading.specs.Verdict.{headerFiled, reserved, recordOk, atBlock, atNumber, verdict}
+use Rattle.reading.specs.Verdict.{headerFiled, reserved, recordOk, atBlock, atNumber, verdictWithin}
 use Rattle.tables.specs.declared.Tables.{Tables}
-use Rattle.tables.specs.Bounds.{mostSegments, mostRoutes}
+use Rattle.tables.specs.Bounds.{mostSegments, mostRoutes, Bounds}
 use Rattle.tables.specs.Tables.{linksTo, countOf, segmentAt}
 use Rattle.tables.specs.Rules.{headerIn, headerOk, marginOk, linksOk, usedOk, unusedOk, rowOk, segmentOk, matched, jointIn, jointOk, orderIn, orderOk, dropIn, dropOk, usedRouteOk, unusedRouteOk, routeIn, routeOk}
 use Rattle.answers.specs.Answers.{answerOf}
-use Rattle.loading.specs.Load.{loaded}
+use Rattle.loading.specs.Before.{loadedWithin}
 use Rattle.rows.specs.AreaA.{header, segments, noSegments, routes, noRoutes, file}
 
 -- the tables of Area A
-unfoldable pub tablesOf : (d length2 limit3 : ℕ) → Tables
-tablesOf d length2 limit3 =
+unfoldable pub tablesOf : (gmax b d length1 limit1 length2 limit2 length3 limit3 : ℕ) → Tables
+tablesOf gmax b d length1 limit1 length2 limit2 length3 limit3 =
     record {
       segments = 3;
       routes = 2;
-      gmax = 300;
-      braking = 10;
+      gmax = gmax;
+      braking = b;
       margin = d;
-      lengths = 6000 ∷ length2 ∷ 8000 ∷ replicate 59 0;
-      limits = 300 ∷ 290 ∷ limit3 ∷ replicate 59 0;
+      lengths = length1 ∷ length2 ∷ length3 ∷ replicate 59 0;
+      limits = limit1 ∷ limit2 ∷ limit3 ∷ replicate 59 0;
       next = 3 ∷ 0 ∷ 3 ∷ replicate 121 0;
       previous = 0 ∷ 0 ∷ 0 ∷ 0 ∷ 1 ∷ 2 ∷ replicate 118 0;
       flags = 1 ∷ 1 ∷ 2 ∷ replicate 59 0;
@@ -44,9 +44,9 @@ unfoldable pub left : (damaged : ℕ) (header margin : Bool) (broken dropping : 
 left damaged header margin broken dropping =
     firstOf (atBlock damaged 2 ∷ not header ⇒ 4 ∷ not margin ⇒ 5 ∷ atNumber broken 6 ∷ atNumber dropping 9 ∷ [])
 
-module _ (d length2 limit3 first0 second0 first1 second1 : ℕ) where
+module _ (gmax b d first0 second0 length1 limit1 length2 limit2 length3 limit3 first1 second1 : ℕ) where
   abbrev areaA : List ℕ
-  areaA = file (header d first0 second0) (segments length2 limit3 first1 second1)
+  areaA = file (header gmax b d first0 second0) (segments length1 limit1 length2 limit2 length3 limit3 first1 second1)
 
   -- where `bytes` unfolds, all its bytes are seen
   bytes : List ℕ
@@ -54,18 +54,45 @@ module _ (d length2 limit3 first0 second0 first1 second1 : ℕ) where
   bytes = areaA
 
   blocks :
-      (block areaA 0 ≡ header d first0 second0) × (block areaA 1 ≡ segments length2 limit3 first1 second1)
+      (block areaA 0 ≡ header gmax b d first0 second0)
+      × (block areaA 1 ≡ segments length1 limit1 length2 limit2 length3 limit3 first1 second1)
       × (block areaA 2 ≡ noSegments) × (block areaA 3 ≡ routes) × (block areaA 4 ≡ noRoutes)
   unfolding bytes block
   blocks = (refl, refl, refl, refl, refl)
 
   -- its tables are those of Area A; a number that an edge changes is read back from its bytes
   abbrev T : Tables
-  T = tablesOf (fourAt (four d) 0) (fourAt (four length2) 0) (twoAt (two limit3) 0)
+  T =
+      tablesOf (twoAt (two gmax) 0) (twoAt (two b) 0) (fourAt (four d) 0) (fourAt (four length1) 0) (twoAt (two limit1) 0)
+      (fourAt (four length2) 0) (twoAt (two limit2) 0) (fourAt (four length3) 0) (twoAt (two limit3) 0)
+
+  in-lengths : tabulate 62 (lengthIn areaA) ≡ T .lengths
+  unfolding segmentBlock lengthIn tabulate
+  in-lengths = rw (blocks .1, blocks .2) (unfold bytes tablesOf in refl)
+
+  in-limits : tabulate 62 (limitIn areaA) ≡ T .limits
+  unfolding segmentBlock limitIn tabulate
+  in-limits = rw (blocks .1, blocks .2) (unfold bytes tablesOf in refl)
+
+  in-next : tabulate 124 (linkIn (inSegment .next) areaA) ≡ T .next
+  unfolding segmentBlock linkIn tabulate
+  in-next = rw (blocks .1, blocks .2) (unfold bytes tablesOf in refl)
+
+  in-previous : tabulate 124 (linkIn (inSegment .previous) areaA) ≡ T .previous
+  unfolding segmentBlock linkIn tabulate
+  in-previous = rw (blocks .1, blocks .2) (unfold bytes tablesOf in refl)
+
+  in-flags : tabulate 62 (flagsIn areaA) ≡ T .flags
+  unfolding segmentBlock flagsIn tabulate
+  in-flags = rw (blocks .1, blocks .2) (unfold bytes tablesOf in refl)
+
+  in-routes : tabulate 960 (routeByteIn areaA) ≡ T .routebytes
+  unfolding routeByteIn tabulate
+  in-routes = rw (blocks .3, blocks .4) (unfold bytes tablesOf in refl)
 
   pub tables : decoded areaA ≡ T
-  unfolding decoded segmentBlock lengthIn limitIn linkIn flagsIn routeByteIn tabulate
-  tables = rw (blocks .0, blocks .1, blocks .2, blocks .3, blocks .4) (unfold bytes tablesOf in refl)
+  unfolding decoded
+  tables = rw (blocks .0, in-lengths, in-limits, in-next, in-previous, in-flags, in-routes) (unfold bytes tablesOf in refl)
 
   -- what no edge breaks: rules 1 and 3, of rule 4 the version and the zeros, of rule 6 the zeros, rules 7, 8 and 10
   size : length areaA ≡ fileSize
@@ -84,10 +111,6 @@ module _ (d length2 limit3 first0 second0 first1 second1 : ℕ) where
   unfolding bytes block segmentBlock reserved zeros every
   ended = refl
 
-  records : firstFailing mostSegments (recordOk areaA T) ≡ firstFailing mostSegments (segmentOk T)
-  unfolding recordOk
-  records = least-same mostSegments _ _ (λ s low high. simp (every-at (reserved areaA) mostSegments ended s low high, and-true))
-
   joints : firstFailing (T .segments) (jointOk T) ≡ 0
   unfolding tablesOf jointIn matched linksTo nth least
   joints = refl
@@ -100,19 +123,26 @@ module _ (d length2 limit3 first0 second0 first1 second1 : ℕ) where
   unfolding tablesOf routeIn usedRouteOk unusedRouteOk linksTo countOf segmentAt nth every least
   routebytes = refl
 
-  -- so the other rules decide
-  abbrev others : Test
-  others = left (firstDamaged areaA) (headerOk T) (marginOk T) (firstFailing mostSegments (segmentOk T)) (firstFailing (T .segments) (dropOk T))
+  module _ (β : Bounds) where
+    records : firstFailing mostSegments (recordOk β areaA T) ≡ firstFailing mostSegments (segmentOk β T)
+    unfolding recordOk
+    records = least-same mostSegments _ _ (λ s low high. simp (every-at (reserved areaA) mostSegments ended s low high, and-true))
 
-  judged : verdict areaA ≡ others
-  unfolding verdict left
-  judged = simp (size, tables, misfiled, headed, records, joints, orders, routebytes)
+    -- so the other rules decide, with the bounds β
+    abbrev others : Test
+    others =
+        left (firstDamaged areaA) (headerOk β T) (marginOk T) (firstFailing mostSegments (segmentOk β T))
+        (firstFailing (T .segments) (dropOk T))
 
-  -- where `found` unfolds, what they find computes
-  unfoldable pub found : Test
-  unfolding bytes tablesOf block firstDamaged intact sums headerIn S fallingSum rowOk usedOk linksOk unusedOk dropIn nth least
-  found = others
+    judged : verdictWithin β areaA ≡ others
+    unfolding left
+    judged = simp (size, tables, misfiled, headed, records, joints, orders, routebytes)
 
-  pub answered : (t : Test) → found ≡ t → loaded areaA .answer ≡ answerOf (t .number) (t .place)
-  unfolding loaded found
-  answered t e = ap (λ (u : Test). answerOf (u .number) (u .place)) (judged ∙ e)
+    -- where `found` unfolds, what they find computes
+    unfoldable pub found : Test
+    unfolding bytes tablesOf block firstDamaged intact sums headerIn S fallingSum rowOk usedOk linksOk unusedOk dropIn nth least
+    found = others
+
+    pub answered : (t : Test) → found ≡ t → loadedWithin β areaA .answer ≡ answerOf (t .number) (t .place)
+    unfolding found
+    answered t e = ap (λ (u : Test). answerOf (u .number) (u .place)) (judged ∙ e)

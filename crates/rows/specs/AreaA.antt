@@ -8,15 +8,15 @@ use Rattle.trains.specs.Train.{off}
 use Rattle.area.specs.declared.Area.{Area}
 use Rattle.trains.specs.Due.{positionDue}
 
--- block 0: 3 segments, 2 routes, `gmax` 300, `b` 10, `d`; the check is given
-unfoldable pub header : (d first second : ℕ) → List ℕ
-header d first second = blockBytes 0 (headerBytes 3 2 300 10 d) first second
+-- block 0: 3 segments, 2 routes; `gmax`, `b`, `d` and the check are given
+unfoldable pub header : (gmax b d first second : ℕ) → List ℕ
+header gmax b d first second = blockBytes 0 (headerBytes 3 2 gmax b d) first second
 
--- block 1: segments 1, 2 and 3; the length of segment 2, the limit of segment 3 and the check are given
-unfoldable pub segments : (length2 limit3 first second : ℕ) → List ℕ
-segments length2 limit3 first second =
+-- block 1: segments 1, 2 and 3; the length and the limit of each and the check are given
+unfoldable pub segments : (length1 limit1 length2 limit2 length3 limit3 first second : ℕ) → List ℕ
+segments length1 limit1 length2 limit2 length3 limit3 first second =
     blockBytes 1
-    (segmentBytes 6000 300 3 0 0 0 1 ++ segmentBytes length2 290 3 0 0 0 1 ++ segmentBytes 8000 limit3 0 0 1 2 2) first second
+    (segmentBytes length1 limit1 3 0 0 0 1 ++ segmentBytes length2 limit2 3 0 0 0 1 ++ segmentBytes length3 limit3 0 0 1 2 2) first second
 
 -- block 2: no segment
 unfoldable pub noSegments : List ℕ
@@ -34,12 +34,30 @@ noRoutes = blockBytes 4 [] 7 94
 unfoldable pub file : (block0 block1 : List ℕ) → List ℕ
 file block0 block1 = block0 ++ block1 ++ noSegments ++ routes ++ noRoutes
 
--- blocks 0 and 1 as Area A has them: `d` 4650, length of segment 2 5500, limit of segment 3 290
+-- blocks 0 and 1 as Area A has them
 abbrev pub headerA : List ℕ
-headerA = header 4650 122 33
+headerA = header 300 10 4650 122 33
 
 abbrev pub segmentsA : List ℕ
-segmentsA = segments 5500 290 251 42
+segmentsA = segments 6000 300 5500 290 8000 290 251 42
+
+-- blocks 0 and 1 of a fast line: `gmax` 2000, `b` 1, `d` 2,001,000; each length 4,000,000, each limit 2000
+abbrev pub headerFast : List ℕ
+headerFast = header 2000 1 2001000 238 93
+
+abbrev pub segmentsFast : List ℕ
+segmentsFast = segments 4000000 2000 4000000 2000 4000000 2000 106 126
+
+-- block 1 with other lengths and limits, alike for all three: 4,000,000 and 1; 1,000,000 and 1000; 1,000,000 and 1
+
+abbrev pub segmentsSlow : List ℕ
+segmentsSlow = segments 4000000 1 4000000 1 4000000 1 229 237
+
+abbrev pub segments1000 : List ℕ
+segments1000 = segments 1000000 1000 1000000 1000 1000000 1000 136 33
+
+abbrev pub segments1 : List ℕ
+segments1 = segments 1000000 1 1000000 1 1000000 1 199 57
 
 -- Area A with position due and train 1 in segment 1, which is 6000 long, where position + speed is 6000; segment 3, its next, is
 -- allocated to it too

@@ -1,25 +1,30 @@
--- The certain values and the edges of document 01 ("Units and braking" and "Area A") as rows of one table, with one computed test.
+-- The certain values and the edges of document 01 ("Units and braking" and "Area A") and of document 02, R-3, as rows of one table,
+-- with one computed test.
 use Prim.Native.Nat.{ℕ}
 use mathlib.Core.Bool.{Bool, true, _&&_}
 use mathlib.Core.List.{List, [], _∷_}
 use lib.Dec.{eqb}
 use Rattle.lists.specs.Words.{at}
 use Rattle.braking.specs.Braking.{S, B}
+use Rattle.tables.specs.Bounds.{smallerBounds}
 use Rattle.trains.specs.Train.{trainAt}
 use Rattle.area.specs.declared.Area.{Area}
+use Rattle.answers.specs.declared.Answer.{Answer}
 use Rattle.answers.specs.Answers.{numberOf, placeOf}
 use Rattle.loading.specs.Load.{loaded}
+use Rattle.loading.specs.Before.{loadedWithin}
 use Rattle.area.specs.Calls.{positionCall}
 use Rattle.separation.specs.Calls.{Call, Enter}
 use Rattle.separation.specs.Runs.{isDone, after}
-use Rattle.rows.specs.AreaA.{header, segments, file, headerA, segmentsA, moving}
+use Rattle.rows.specs.AreaA.{header, segments, file, headerA, segmentsA, headerFast, segmentsFast, segmentsSlow, segments1000, segments1, moving}
 
 pub data Row : Type 0 where
   -- with this b, S(v) = way; and B(v) = way
   ValueS : (b v way : ℕ) → Row
   ValueB : (b v way : ℕ) → Row
-  -- load answers this file with this number and place
+  -- load answers this file with this number and place; so did it with the smaller bounds
   Load : (bytes : List ℕ) (number place : ℕ) → Row
+  Before : (bytes : List ℕ) (number place : ℕ) → Row
   -- after the call position on this record, the train has this place and position
   Move : (before : Area) (train place position : ℕ) → Row
   -- load answers this file with done, and after these calls the train is on the area and the segment is allocated to it
@@ -27,11 +32,16 @@ pub data Row : Type 0 where
   -- an edge in two halves
   Both : Row → Row → Row
 
+-- an answer has this number and place
+abbrev pub is : Answer → (number place : ℕ) → Bool
+is answer number place = eqb (numberOf answer) number && eqb (placeOf answer) place
+
 -- the test of one row
 unfoldable pub holds : Row → Bool
 holds (ValueS b v way) = eqb (S b v) way
 holds (ValueB b v way) = eqb (B b v) way
-holds (Load bytes number place) = eqb (numberOf (loaded bytes .answer)) number && eqb (placeOf (loaded bytes .answer)) place
+holds (Load bytes number place) = is (loaded bytes .answer) number place
+holds (Before bytes number place) = is (loadedWithin smallerBounds bytes .answer) number place
 holds (Move before train place position) =
     eqb (trainAt (positionCall before .area .trains) train .place) place
     && eqb (trainAt (positionCall before .area .trains) train .position) position
@@ -44,7 +54,7 @@ unfoldable pub allHold : List Row → Bool
 allHold [] = true
 allHold (x ∷ rows) = holds x && allHold rows
 
--- the seven values of S, the value of B, the four edges, and a run
+-- the values of S and B, the four edges of document 01, the edges of R-3, and two runs
 unfoldable pub table : List Row
 table =
     ValueS 10 5 5
@@ -54,15 +64,44 @@ table =
     ∷ ValueS 10 300 4650
     ∷ ValueS 300 300 300
     ∷ ValueS 1 1000 500500
+    -- "b = 1 and v = 2000 gives 2,001,000"
+    ∷ ValueS 1 2000 2001000
     ∷ ValueB 10 300 4350
     -- "`d` 4649 is 5"
-    ∷ Load (file (header 4649 121 41) segmentsA) 5 0
+    ∷ Load (file (header 300 10 4649 121 41) segmentsA) 5 0
     -- "Length 4950 is 6, 4951 passes"
-    ∷ Both (Load (file headerA (segments 4950 290 211 174)) 6 2) (Load (file headerA (segments 4951 290 212 158)) 0 0)
+    ∷ Both
+    (Load (file headerA (segments 6000 300 4950 290 8000 290 211 174)) 6 2)
+    (Load (file headerA (segments 6000 300 4951 290 8000 290 212 158)) 0 0)
     -- "Limit 289 on segment 3 is 9"
-    ∷ Load (file headerA (segments 5500 289 250 78)) 9 1
+    ∷ Load (file headerA (segments 6000 300 5500 290 8000 289 250 78)) 9 1
     -- "Position + speed equal to the length moves on to 0"
     ∷ Move moving 1 2 0
-    -- a run with a train on it: what the claim of whole runs asks for is met
+    -- "`gmax` may be 1 to 2000": 2000 passes, 2001 is 4
+    ∷ Both (Load (file (header 2000 1 2003001 199 142) segmentsFast) 0 0) (Load (file (header 2001 1 2003001 200 138) segmentsFast) 4 0)
+    -- S(2000) in rule 5: with `b` 1, `d` 2,001,000 passes and 2,000,999 is 5
+    ∷ Both (Load (file headerFast segmentsFast) 0 0) (Load (file (header 2000 1 2000999 237 101) segmentsFast) 5 0)
+    -- "lengths may be up to 4,000,000": 4,000,000 passes, 4,000,001 is 6
+    ∷ Both
+    (Load (file headerA (segments 6000 300 4000000 290 8000 290 176 112)) 0 0)
+    (Load (file headerA (segments 6000 300 4000001 290 8000 290 177 96)) 6 2)
+    -- "`d` .. may be up to 4,000,000": 4,000,000 passes rule 4, but no length is left above `d` + `gmax`, and it is 6; 4,000,001 is 4
+    ∷ Both (Load (file (header 1 1 4000000 79 71) segmentsSlow) 6 1) (Load (file (header 1 1 4000001 80 63) segmentsSlow) 4 0)
+    -- with `gmax` 1 and lengths 4,000,000, `d` 3,999,998 passes and 3,999,999 is 6
+    ∷ Both (Load (file (header 1 1 3999998 77 88) segmentsSlow) 0 0) (Load (file (header 1 1 3999999 78 80) segmentsSlow) 6 1)
+    -- the bounds "until now", each at its edge
+    ∷ Both (Before (file (header 1000 1 501501 159 60) segments1000) 0 0) (Before (file (header 1001 1 501501 160 56) segments1000) 4 0)
+    ∷ Both
+    (Before (file headerA (segments 6000 300 1000000 290 8000 290 251 222)) 0 0)
+    (Before (file headerA (segments 6000 300 1000001 290 8000 290 252 206)) 6 2)
+    ∷ Both (Before (file (header 1 1 1000000 154 16) segments1) 6 1) (Before (file (header 1 1 1000001 155 8) segments1) 4 0)
+    -- the rest of rule 4 in these numbers: `b` above `gmax` is 4, `d` 0 is 4
+    ∷ Both (Load (file (header 300 301 4650 158 71) segmentsA) 4 0) (Load (file (header 300 10 0 62 21) segmentsA) 4 0)
+    -- 4 comes before 5, and 5 before 6, where all three are due
+    ∷ Both
+    (Load (file (header 2001 1 2000999 238 97) (segments 4000001 2000 4000001 2000 4000001 2000 109 78)) 4 0)
+    (Load (file (header 2000 1 2000999 237 101) (segments 4000001 2000 4000001 2000 4000001 2000 109 78)) 5 0)
+    -- a run with a train on it: what the claim of whole runs asks for is met; so it is on a fast line
     ∷ Run (file headerA segmentsA) (Enter 1 1 250 ∷ []) 1 1
+    ∷ Run (file headerFast segmentsFast) (Enter 1 1 2000 ∷ []) 1 1
     ∷ []

@@ -3,7 +3,7 @@ ghost use mathlib.Core.Path.{_≡_};
 ghost use Prim.Native.Nat.{_+_};
 ghost use lib.Dec.{leb};
 ghost use Rattle.lists.specs.Words.{firstFailing};
-ghost use Rattle.tables.specs.Bounds.{mostSegments};
+ghost use Rattle.tables.specs.Bounds.{mostSegments, bounds};
 ghost use Rattle.tables.specs.Tables.{rowOf};
 ghost use Rattle.tables.specs.Rules.{rowOk, matched, jointIn, greater, orderIn, gentle, dropIn, meets};
 ghost use Rattle.rules.specs.Scan.{segmentMeets};
@@ -29,7 +29,7 @@ fn first_bad_segment<'a>(
     gmax: u16,
     margin: u32,
 ) -> u8
-    ensures { λ r. ⌜ r ≡ firstFailing mostSegments (λ k. rowOk n gmax margin k (rowOf (now (lengths .entry)) (now (limits .entry)) (now (next .entry)) (now (previous .entry)) (now (flags .entry)) k)) ⌝ }
+    ensures { λ r. ⌜ r ≡ firstFailing mostSegments (λ k. rowOk bounds n gmax margin k (rowOf (now (lengths .entry)) (now (limits .entry)) (now (next .entry)) (now (previous .entry)) (now (flags .entry)) k)) ⌝ }
 {
     let mut k: u8 = 0;
     while k < MOST_SEGMENTS {

@@ -1,4 +1,4 @@
--- Tables that meet rules 4 to 10 are consistent.
+-- Tables that meet rules 4 to 10 are consistent, and what the bounds decide of these rules.
 use Prim.Native.Nat.{ℕ, _+_, _≤_, _<_}
 use mathlib.Core.Path.{_≡_}
 use mathlib.Core.Bool.{Bool, true, _||_}
@@ -8,13 +8,13 @@ use native.Mathlib.Omega.{arith}
 use lib.Dec.{leb, ltb, eqb}
 use borrow.Author.Tests.{leb-true, ltb-true, eqb-true, le-leb}
 use Rattle.lists.specs.Words.{at}
-use Rattle.lists.proofs.Cases.{cases, either, and-iff, facts}
+use Rattle.lists.proofs.Cases.{cases, by-test, either, and-iff, facts}
 use Rattle.lists.proofs.Loops.{every-at, every-all}
 use Rattle.tables.specs.declared.Tables.{Tables}
-use Rattle.tables.specs.Bounds.{mostSegments, mostRoutes, longestRoute, fastest, longest}
+use Rattle.tables.specs.Bounds.{mostSegments, mostRoutes, longestRoute, Bounds, bounds}
 use Rattle.tables.specs.Tables.{firstLink, secondLink, linksTo, segmentOf, countOf, segmentAt}
-use Rattle.tables.specs.Rules.{headerIn, linksOk, usedOk, rowOk, segmentOk, matched, jointIn, orderIn, gentle, dropIn, numberIn, stepIn, usedRouteOk, routeIn, jointOk, orderOk, dropOk, routeOk, meets}
-use Rattle.tables.specs.Facts.{Meets, IsSegment, Consistent}
+use Rattle.tables.specs.Rules.{headerIn, headerOk, linksOk, usedOk, rowOk, segmentOk, matched, jointIn, orderIn, gentle, dropIn, numberIn, stepIn, usedRouteOk, routeIn, jointOk, orderOk, dropOk, routeOk, meets}
+use Rattle.tables.specs.Facts.{MeetsWithin, Meets, IsSegment, HeaderWithin, Within, Consistent}
 
 -- what holds of each link of a segment that is not 0 holds of every number that it links to
 module _ (links : List ℕ) (p : ℕ → Bool) (s : ℕ) (first : (eqb (firstLink links s) 0 || p (firstLink links s)) ≡ true) (second : (eqb (secondLink links s) 0 || p (secondLink links s)) ≡ true) where
@@ -28,16 +28,25 @@ module _ (links : List ℕ) (p : ℕ → Bool) (s : ℕ) (first : (eqb (firstLin
   of-link n h some =
       cases (either (eqb (firstLink links s) n) (eqb (secondLink links s) n) h) (λ e. one (firstLink links s) n first e some) (λ e. one (secondLink links s) n second e some)
 
-module _ (T : Tables) (m : Meets T) where
-  header-facts : ((1 ≤ T .segments) × (T .segments ≤ mostSegments)) × ((1 ≤ T .routes) × (T .routes ≤ mostRoutes)) × (T .gmax ≤ fastest) × (1 ≤ T .braking)
-  unfolding headerIn
-  header-facts = let h = m .header in let f = simp facts at h in omega arith
+-- THE CLAIM: the test of rule 4 asks that each number of the header is within its bounds, and nothing else
+pub header-iff : (β : Bounds) (n R gmax b d : ℕ) → (headerIn β n R gmax b d ≡ true) ↔ HeaderWithin β n R gmax b d
+unfolding headerIn
+header-iff β n R gmax b d = (
+  λ h.
+      let f = simp facts at h in
+      record { segments = omega arith; routes = omega arith; top = omega arith; rate = omega arith; margin = omega arith },
+  λ w. simp facts (omega (arith, w .segments, w .routes, w .top, w .rate, w .margin)),
+)
 
-  used : (s : ℕ) → IsSegment T s → usedOk (T .segments) (T .gmax) (T .margin) (segmentOf T s) ≡ true
+module _ {β : Bounds} {T : Tables} (m : MeetsWithin β T) where
+  header-facts : HeaderWithin β (T .segments) (T .routes) (T .gmax) (T .braking) (T .margin)
+  header-facts = header-iff β _ _ _ _ _ .0 (m .header)
+
+  used : (s : ℕ) → IsSegment T s → usedOk β (T .segments) (T .gmax) (T .margin) (segmentOf T s) ≡ true
   unfolding rowOk
-  used s i = let f = header-facts in let h = m .segment s (i .from) (omega arith) in rw (le-leb s (T .segments) (i .to)) at h
+  used s i = let f = header-facts .segments in let h = m .segment s (i .from) (omega arith) in rw (le-leb s (T .segments) (i .to)) at h
 
-  used-facts : (s : ℕ) → IsSegment T s → (T .margin + T .gmax < at (T .lengths) s) × (at (T .lengths) s ≤ longest) × (1 ≤ at (T .limits) s) × (at (T .limits) s ≤ T .gmax)
+  used-facts : (s : ℕ) → IsSegment T s → (T .margin + T .gmax < at (T .lengths) s) × (at (T .lengths) s ≤ β .longest) × (1 ≤ at (T .limits) s) × (at (T .limits) s ≤ T .gmax)
   unfolding usedOk
   used-facts s i = let h = used s i in let f = simp facts at h in omega arith
 
@@ -83,7 +92,7 @@ module _ (T : Tables) (m : Meets T) where
   -- the tests of a route in order: its count's bounds, the numbers up to it, the steps between them, the rest
   route-tests : (r : ℕ) → 1 ≤ r → r ≤ T .routes → usedRouteOk (T .next) (T .routebytes) (T .segments) r ≡ true
   unfolding routeIn
-  route-tests r low high = let f = header-facts in let h = m .route r low (omega arith) in rw (le-leb r (T .routes) high) at h
+  route-tests r low high = let f = header-facts .routes in let h = m .route r low (omega arith) in rw (le-leb r (T .routes) high) at h
 
   count-facts : (r : ℕ) → 1 ≤ r → r ≤ T .routes → (1 ≤ countOf (T .routebytes) r) × (countOf (T .routebytes) r ≤ longestRoute)
   unfolding usedRouteOk
@@ -104,30 +113,80 @@ module _ (T : Tables) (m : Meets T) where
       let f = simp and-iff at (route-tests r low high) in
       every-at (stepIn (T .next) (T .routebytes) r) _ (f .0 .1) p from (omega arith)
 
-  -- THE CLAIM: where tables meet rules 4 to 10, top speed stops within `d`, next links match previous ones, rise and drop the limit by at most `b`,
-  -- and routes follow next links; each field of `Consistent` says one such fact
-  pub consistent : Consistent T
-  consistent =
+  -- THE CLAIM: tables that meet the rules with some bounds are within them: `gmax`, `d` and every length
+  pub within-asked : Within β T
+  within-asked = record { gmax = header-facts .top .1; margin = header-facts .margin .1; lengths = λ s i. used-facts s i .1 }
+
+-- THE CLAIM: where tables meet rules 4 to 10, top speed stops within `d`, next links match previous ones, rise and drop the limit by at most `b`,
+-- and routes follow next links; each field of `Consistent` says one such fact
+pub consistent : (T : Tables) → Meets T → Consistent T
+consistent T m =
+    record {
+      segments = header-facts m .segments;
+      routes = header-facts m .routes;
+      gmax = header-facts m .top .1;
+      rate = header-facts m .rate .0;
+      stops = leb-true _ _ (m .margin);
+      long = λ s i. used-facts m s i .0;
+      short = λ s i. used-facts m s i .1;
+      limited = λ s i. (used-facts m s i .2, used-facts m s i .3);
+      linked = λ s n i f. link-bound m s n i (f .link);
+      back = λ s n i f. next-back m s n i (f .some) (f .link);
+      forth = λ s n i some l. previous-forth m s n i some l;
+      rises = λ s n i f. link-rises m s n i (f .some) (f .link);
+      gentle = λ s n i f. link-gentle m s n i (f .some) (f .link);
+      counted = count-facts m;
+      placed = place-facts m;
+      stepped =
+          λ r p low high from to.
+          record { link = step-facts m r p low high from to; some = place-facts m r (p + 1) low high (omega arith) (omega arith) .from };
+    }
+
+module _ {β β′ : Bounds} {T : Tables} (m : MeetsWithin β T) (w : Within β′ T) where
+  header-enough : headerOk β′ T ≡ true
+  header-enough =
+      let f = header-facts m in
+      header-iff β′ _ _ _ _ _ .1
+      (record {
+        segments = f .segments;
+        routes = f .routes;
+        top = (f .top .0, w .gmax);
+        rate = f .rate;
+        margin = (f .margin .0, w .margin);
+      })
+
+  used-enough : (s : ℕ) → IsSegment T s → usedOk β′ (T .segments) (T .gmax) (T .margin) (segmentOf T s) ≡ true
+  unfolding usedOk
+  used-enough s i =
+      let h = used m s i in
+      let f = simp and-iff at h in
+      rw (f .0 .0 .0 .0 .0 .0, le-leb _ _ (w .lengths s i), f .0 .0 .0 .0 .1, f .0 .0 .0 .1, f .0 .0 .1, f .0 .1, f .1)
+
+  segment-enough : (s : ℕ) → 1 ≤ s → s ≤ mostSegments → segmentOk β′ T s ≡ true
+  unfolding rowOk
+  segment-enough s from to =
+      by-test (leb s (T .segments))
+      (λ u. rw u (used-enough s (record { from = from; to = leb-true s (T .segments) u })))
+      (λ u. let h = m .segment s from to in rw u (rw u at h))
+
+  -- THE CLAIM: and of rules 4 to 10 the bounds decide nothing else: the same tables meet the rules with all other bounds that they are within
+  pub within-enough : MeetsWithin β′ T
+  within-enough =
       record {
-        segments = header-facts .0;
-        routes = header-facts .1;
-        gmax = header-facts .2;
-        rate = header-facts .3;
-        stops = leb-true _ _ (m .margin);
-        long = λ s i. used-facts s i .0;
-        short = λ s i. used-facts s i .1;
-        limited = λ s i. (used-facts s i .2, used-facts s i .3);
-        linked = λ s n i f. link-bound s n i (f .link);
-        back = λ s n i f. next-back s n i (f .some) (f .link);
-        forth = λ s n i some l. previous-forth s n i some l;
-        rises = λ s n i f. link-rises s n i (f .some) (f .link);
-        gentle = λ s n i f. link-gentle s n i (f .some) (f .link);
-        counted = count-facts;
-        placed = place-facts;
-        stepped =
-            λ r p low high from to.
-            record { link = step-facts r p low high from to; some = place-facts r (p + 1) low high (omega arith) (omega arith) .from };
+        header = header-enough;
+        margin = m .margin;
+        segment = segment-enough;
+        joint = m .joint;
+        order = m .order;
+        drop = m .drop;
+        route = m .route;
       }
+
+-- THE CLAIM: the bounds in force, in document 02's numbers
+pub bounded : (T : Tables) → Meets T → (T .gmax ≤ 2000) × (T .margin ≤ 4000000) × ((s : ℕ) → IsSegment T s → at (T .lengths) s ≤ 4000000)
+bounded T m =
+    let w = within-asked m in
+    (omega (arith, w .gmax), omega (arith, w .margin), λ s i. omega (arith, w .lengths s i))
 
 -- THE CLAIM: the test of tables decides whether they meet rules 4 to 10
 pub meets-iff : (T : Tables) → (meets T ≡ true) ↔ Meets T
@@ -138,7 +197,7 @@ meets-iff T = (
       record {
         header = f .0 .0 .0 .0 .0 .0;
         margin = f .0 .0 .0 .0 .0 .1;
-        segment = every-at (segmentOk T) mostSegments (f .0 .0 .0 .0 .1);
+        segment = every-at (segmentOk bounds T) mostSegments (f .0 .0 .0 .0 .1);
         joint = every-at (jointOk T) (T .segments) (f .0 .0 .0 .1);
         order = every-at (orderOk T) (T .segments) (f .0 .0 .1);
         drop = every-at (dropOk T) (T .segments) (f .0 .1);
@@ -148,7 +207,7 @@ meets-iff T = (
       rw (
         m .header,
         m .margin,
-        every-all (segmentOk T) mostSegments (m .segment),
+        every-all (segmentOk bounds T) mostSegments (m .segment),
         every-all (jointOk T) (T .segments) (m .joint),
         every-all (orderOk T) (T .segments) (m .order),
         every-all (dropOk T) (T .segments) (m .drop),

@@ -1,5 +1,6 @@
 -- Rules 4 to 10 of document 01, "Refusals", as conditions on tables. A rule of a record, a segment or a route is a test of its number.
--- n and R are the numbers of segments and routes, gmax the top speed, b the speed lost by a cycle of full braking, d the end distance.
+-- n and R are the numbers of segments and routes, gmax the top speed, b the speed lost by a cycle of full braking, d the end distance;
+-- β are the bounds that rules 4 and 6 read (document 02, R-3).
 use Prim.Native.Nat.{ℕ, _+_, _-_}
 use mathlib.Core.Bool.{Bool, not, _&&_, _||_}
 use mathlib.Core.List.{List}
@@ -7,17 +8,17 @@ use lib.Dec.{leb, ltb, eqb}
 use Rattle.lists.specs.Words.{if_then_else_, at, every}
 use Rattle.tables.specs.declared.Tables.{Tables}
 use Rattle.tables.specs.declared.Segment.{Segment}
-use Rattle.tables.specs.Bounds.{mostSegments, mostRoutes, longestRoute, fastest, longest}
+use Rattle.tables.specs.Bounds.{mostSegments, mostRoutes, longestRoute, Bounds, bounds}
 use Rattle.tables.specs.Tables.{firstLink, secondLink, linksTo, segmentOf, countOf, segmentAt, brakingDistance}
 
 -- rule 4, header: each number within its bounds
-unfoldable pub headerIn : (n R gmax b d : ℕ) → Bool
-headerIn n R gmax b d =
+unfoldable pub headerIn : Bounds → (n R gmax b d : ℕ) → Bool
+headerIn β n R gmax b d =
     leb 1 n && leb n mostSegments && leb 1 R && leb R mostRoutes
-    && leb 1 gmax && leb gmax fastest && leb 1 b && leb b gmax && leb 1 d && leb d longest
+    && leb 1 gmax && leb gmax (β .fastest) && leb 1 b && leb b gmax && leb 1 d && leb d (β .longest)
 
-abbrev pub headerOk : Tables → Bool
-headerOk T = headerIn (T .segments) (T .routes) (T .gmax) (T .braking) (T .margin)
+abbrev pub headerOk : Bounds → Tables → Bool
+headerOk β T = headerIn β (T .segments) (T .routes) (T .gmax) (T .braking) (T .margin)
 
 -- rule 5, margin: `d` is at least S(`gmax`)
 abbrev pub marginOk : Tables → Bool
@@ -27,10 +28,10 @@ marginOk T = leb (brakingDistance T (T .gmax)) (T .margin)
 unfoldable pub linksOk : (n first second : ℕ) → Bool
 linksOk n first second = leb first n && leb second n && (eqb second 0 || (not (eqb first 0) && not (eqb first second)))
 
--- a record 1 to n: length above `d` + `gmax` and at most 1,000,000; limit 1 to `gmax`; links; flags at most 3
-unfoldable pub usedOk : (n gmax d : ℕ) → Segment → Bool
-usedOk n gmax d s =
-    ltb (d + gmax) (s .length) && leb (s .length) longest && leb 1 (s .limit) && leb (s .limit) gmax
+-- a record 1 to n: length above `d` + `gmax` and at most the longest; limit 1 to `gmax`; links; flags at most 3
+unfoldable pub usedOk : Bounds → (n gmax d : ℕ) → Segment → Bool
+usedOk β n gmax d s =
+    ltb (d + gmax) (s .length) && leb (s .length) (β .longest) && leb 1 (s .limit) && leb (s .limit) gmax
     && linksOk n (s .next1) (s .next2) && linksOk n (s .previous1) (s .previous2) && leb (s .flags) 3
 
 -- a record above n: all zero
@@ -40,11 +41,11 @@ unusedOk s =
     && eqb (s .previous1) 0 && eqb (s .previous2) 0 && eqb (s .flags) 0
 
 -- rule 6, segment: of what is kept of segment record k
-unfoldable pub rowOk : (n gmax d k : ℕ) → Segment → Bool
-rowOk n gmax d k s = if leb k n then usedOk n gmax d s else unusedOk s
+unfoldable pub rowOk : Bounds → (n gmax d k : ℕ) → Segment → Bool
+rowOk β n gmax d k s = if leb k n then usedOk β n gmax d s else unusedOk s
 
-abbrev pub segmentOk : Tables → ℕ → Bool
-segmentOk T k = rowOk (T .segments) (T .gmax) (T .margin) k (segmentOf T k)
+abbrev pub segmentOk : Bounds → Tables → ℕ → Bool
+segmentOk β T k = rowOk β (T .segments) (T .gmax) (T .margin) k (segmentOf T k)
 
 -- rule 7, joint: for each next link of s the matching previous link, and the reverse. `back` lists the links the other way
 unfoldable pub matched : (back : List ℕ) (link s : ℕ) → Bool
@@ -112,11 +113,11 @@ routeIn next routebytes n R r = if leb r R then usedRouteOk next routebytes n r 
 abbrev pub routeOk : Tables → ℕ → Bool
 routeOk T = routeIn (T .next) (T .routebytes) (T .segments) (T .routes)
 
--- "Tables meet 4 to 10": rules 6 and 10 of all records, rules 7 to 9 of the segments 1 to N
+-- "Tables meet 4 to 10", with the bounds in force: rules 6 and 10 of all records, rules 7 to 9 of the segments 1 to N
 unfoldable pub meets : Tables → Bool
 meets T =
-    headerOk T && marginOk T
-    && every mostSegments (segmentOk T)
+    headerOk bounds T && marginOk T
+    && every mostSegments (segmentOk bounds T)
     && every (T .segments) (jointOk T)
     && every (T .segments) (orderOk T)
     && every (T .segments) (dropOk T)

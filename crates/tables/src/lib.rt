@@ -1,15 +1,15 @@
 // The tables of an area by value.
 
-// The bounds of document 01, "The area file".
+// The bounds of documents 01, "The area file", and 02, R-3.
 pub const MOST_SEGMENTS: u8 = 62;
 
 pub const MOST_ROUTES: u8 = 30;
 
 pub const LONGEST_ROUTE: u8 = 31;
 
-pub const FASTEST: u16 = 1000;
+pub const FASTEST: u16 = 2000;
 
-pub const LONGEST: u32 = 1000000;
+pub const LONGEST: u32 = 4000000;
 
 // N, R, `gmax`, `b` and `d` of document 01; then a slot for each segment, two for its next and two for its previous links,
 // and the route records as the file has them, 32 bytes each: the count and then the segment numbers.

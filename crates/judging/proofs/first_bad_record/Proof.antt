@@ -6,13 +6,13 @@ use native.Mathlib.Omega.{arith}
 use borrow.Author.Needs.{needs}
 use denote.Ref.{now}
 use Rattle.lists.proofs.Loops.{Scanned, scan-begin, scan-over, scan-more, scan-found}
-use Rattle.tables.specs.Bounds.{mostSegments}
+use Rattle.tables.specs.Bounds.{mostSegments, bounds}
 use Rattle.reading.specs.Verdict.{recordOk}
 use Rattle.judging.proofs.first_bad_record.Statement.{statement}
 use Rattle.judging.proofs.first_bad_record.Tie as tie
 
 abbrev Inv-loop : tie.InvT-loop
-Inv-loop file t i₀ i = Scanned mostSegments (recordOk file t) i
+Inv-loop file t i₀ i = Scanned mostSegments (recordOk bounds file t) i
 
 abbrev μ-loop : tie.MeasureT-loop
 μ-loop file t i₀ i = mostSegments - i
@@ -25,7 +25,7 @@ here :
     (c : tie.After-row-ok Inv-loop μ-loop)
     → let l = turn c .before .before in
     let a = l .before .before .args in
-    (c .row-ok .result && turn c .is-reserved .result) ≡ recordOk (now (a .file)) (a .t2) (l .loop .i + 1)
+    (c .row-ok .result && turn c .is-reserved .result) ≡ recordOk bounds (now (a .file)) (a .t2) (l .loop .i + 1)
 unfolding recordOk
 here c = simp (c .row-ok .ensures, c .before .row-of .ensures, turn c .is-reserved .ensures)
 

@@ -10,6 +10,7 @@ use borrow.Author.Needs.{needs}
 use denote.Ref.{now}
 use Rattle.lists.specs.Tests.{firstOf}
 use Rattle.lists.proofs.Cases.{facts, test-holds}
+use Rattle.tables.specs.Bounds.{bounds}
 use Rattle.tables.specs.Rules.{headerIn, headerOk}
 use Rattle.reading.specs.Verdict.{headerFiled, tableTests, readingBy}
 use Rattle.lists.proofs.Refusals.{refuse-broken, leave-met}
@@ -22,12 +23,12 @@ abbrev After : ℕ → tie.Start → Type 0
 After k s =
     let file : List ℕ = now (s .args .file) in
     let t = s .args .t2 in
-    LeftReading (readingBy (firstOf (tableTests file t)) t) t (drop k (tableTests file t))
+    LeftReading (readingBy (firstOf (tableTests bounds file t)) t) t (drop k (tableTests bounds file t))
 
 header :
     (c : tie.After-header-ok)
     → (c .before .is-header-filed .result && c .header-ok .result)
-    ≡ (headerFiled (now (c .before .before .before .args .file)) && headerOk (c .before .before .before .args .t2))
+    ≡ (headerFiled (now (c .before .before .before .args .file)) && headerOk bounds (c .before .before .before .args .t2))
 header c = simp (c .before .is-header-filed .ensures, c .header-ok .ensures)
 
 left0 : (s : tie.Start) → After 0 s

@@ -7,6 +7,7 @@ use borrow.Author.Tests.{eq-eqb, ne-eqb}
 use borrow.Author.Needs.{needs}
 use denote.Ref.{now}
 use Rattle.decoding.specs.Decoding.{decoded}
+use Rattle.tables.specs.Bounds.{bounds}
 use Rattle.reading.specs.Verdict.{fileTests, tableTests, verdict, readingOf}
 use Rattle.lists.proofs.Refusals.{refuse, leave}
 use Rattle.reading.proofs.Laws.{LeftReading, refuse-block, leave-none}
@@ -17,7 +18,7 @@ use Rattle.judging.proofs.read.Tie as tie
 abbrev After : ℕ → tie.Start → Type 0
 After k s =
     let file : List ℕ = now (s .args .file) in
-    LeftReading (readingOf file) (decoded file) (drop k (fileTests file (tableTests file (decoded file))))
+    LeftReading (readingOf file) (decoded file) (drop k (fileTests file (tableTests bounds file (decoded file))))
 
 left0 : (s : tie.Start) → After 0 s
 unfolding readingOf verdict

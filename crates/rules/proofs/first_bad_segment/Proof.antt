@@ -3,7 +3,7 @@ use Prim.Native.Nat.{ℕ, _-_}
 use native.Mathlib.Omega.{arith}
 use borrow.Author.Needs.{needs}
 use Rattle.lists.proofs.Loops.{Scanned, scan-begin, scan-over, scan-more, scan-found}
-use Rattle.tables.specs.Bounds.{mostSegments}
+use Rattle.tables.specs.Bounds.{mostSegments, bounds}
 use Rattle.tables.specs.Tables.{rowOf}
 use Rattle.tables.specs.Rules.{rowOk}
 use Rattle.rules.proofs.first_bad_segment.Statement.{statement}
@@ -11,7 +11,7 @@ use Rattle.rules.proofs.first_bad_segment.Tie as tie
 
 abbrev Inv-loop : tie.InvT-loop
 Inv-loop lengths limits next previous flags n gmax margin k₀ k =
-    Scanned mostSegments (λ (k : ℕ). rowOk n gmax margin k (rowOf lengths limits next previous flags k)) k
+    Scanned mostSegments (λ (k : ℕ). rowOk bounds n gmax margin k (rowOf lengths limits next previous flags k)) k
 
 abbrev μ-loop : tie.MeasureT-loop
 μ-loop lengths limits next previous flags n gmax margin k₀ k = mostSegments - k

@@ -5,6 +5,7 @@ use native.Mathlib.Omega.{arith}
 use borrow.Author.Needs.{needs}
 use Rattle.lists.proofs.Cases.{facts, test-fails, test-holds}
 use Rattle.lists.proofs.Loops.{every-scan}
+use Rattle.tables.specs.Bounds.{bounds}
 use Rattle.tables.specs.Rules.{headerIn, meets}
 use Rattle.rules.proofs.tables_meet.Statement.{statement}
 use Rattle.rules.proofs.tables_meet.Tie as tie
@@ -13,7 +14,7 @@ returns : tie.Need-returns
 unfolding meets
 returns c = rw (test-fails (c .before .header-ok .ensures) (c .if1 .taken))
 
-header : (c : tie.Else1) → let a = c .before .before .args in headerIn (a .segments) (a .routes) (a .gmax) (a .braking) (a .margin) ≡ true
+header : (c : tie.Else1) → let a = c .before .before .args in headerIn bounds (a .segments) (a .routes) (a .gmax) (a .braking) (a .margin) ≡ true
 header c = test-holds (c .before .header-ok .ensures) (c .if1 .left)
 
 margin-ok-requires : tie.Need-margin-ok-requires
