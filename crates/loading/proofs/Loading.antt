@@ -14,6 +14,7 @@ use Rattle.reading.specs.Verdict.{verdict, accepted, readingOf}
 use Rattle.reading.specs.Acceptance.{MeetsRules}
 use Rattle.reading.proofs.Accepted.{loadTests, accepted-iff, number-zero, refusal-placed}
 use Rattle.trains.specs.Train.{off}
+use Rattle.answers.specs.declared.Answer.the-variants.{Done}
 use Rattle.answers.specs.Answers.{answerOf, numberOf, placeOf}
 use Rattle.loading.specs.Load.{fresh, blank, loaded, AllZero}
 use Rattle.answers.proofs.Answers.{number-of-answer, place-of-answer}
@@ -51,6 +52,11 @@ module _ (file : List ℕ) where
     number-of-answer (verdict file .number) (verdict file .place),
     place-of-answer (verdict file .number) (verdict file .place) (refusal-placed file .done),
   )
+
+  -- an accepted file is answered done
+  pub done-answer : accepted file ≡ true → loaded file .answer ≡ Done
+  unfolding loaded answerOf
+  done-answer e = rw (accepted-verdict (not-true (verdict file .holds) e) .0)
 
   -- THE CLAIM: load's refusal gives the blank record
   pub refused-blank : accepted file ≡ false → loaded file .area ≡ blank
