@@ -81,7 +81,7 @@ static void report_record(void) {
 static void write_record(void) {
     number = rbu_write_record(file, file_length, state, state_length, buffer, buffer_length);
 }
-static void braking_distance(void) { start = rbu_braking_distance(1, 1000); }
+static void braking_distance(void) { start = rbu_braking_distance(1, RBU_FASTEST); }
 
 // ---- the painted stack
 

@@ -40,6 +40,10 @@ extern "C" {
 #define RBU_ROUTES 30
 #define RBU_TRAINS 24
 
+// At the most: `gmax`, in decimetres per cycle; `d` and the length of a segment, in decimetres.
+#define RBU_FASTEST 2000
+#define RBU_LONGEST 4000000
+
 // The answers: done, what load finds of a file (1 to 10), the refusals of calls (11 to 21) and of a write (11 and 22).
 enum rbu_answer {
     RBU_ANSWER_DONE = 0,
@@ -89,8 +93,8 @@ struct rbu_train {
     uint8_t asks;
 };
 
-// The tables of the file: N, R, `gmax`, `b` and `d`. Of segment s: lengths[s - 1], limits[s - 1] and flags[s - 1] (1 entry, 2 exit,
-// sum of both); its next links at next[2 * (s - 1)] and the place after, its previous links likewise, 0 for none. Of route r: how many
+// The tables of the file: N, R, `gmax` (at most RBU_FASTEST), `b` and `d`. Of segment s: lengths[s - 1] (at most RBU_LONGEST, as `d`
+// is), limits[s - 1] and flags[s - 1] (1 entry, 2 exit, sum of both); its next links at next[2 * (s - 1)] and the place after, its previous links likewise, 0 for none. Of route r: how many
 // segments it has at routebytes[32 * (r - 1)], the one at place p at routebytes[32 * (r - 1) + p]. So a train that is on is on segment
 // routebytes[32 * (route - 1) + place].
 struct rbu_tables {

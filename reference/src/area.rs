@@ -3,8 +3,8 @@
 //! In a running area a train keeps one number for where it is: its way since its enter. Its
 //! place in the route and its position are worked out from the way and the summed lengths.
 
-use crate::file::{read, Refusal};
-use crate::numbers::{LAST_COUNT, SEGMENTS, TRAINS, WISHES};
+use crate::file::{read, read_within, Refusal};
+use crate::numbers::{Bounds, LAST_COUNT, SEGMENTS, TRAINS, WISHES};
 use crate::record::{sound, RawTrain, Record, GRANT, POSITION, REQUEST, SPEED};
 use crate::send::send;
 use crate::tables::{Tables, ENTRY, EXIT};
@@ -84,7 +84,12 @@ pub fn load(file: &[u8]) -> Result<Area, Refusal> {
 
 /// Load's answer, "a number and a place"; 0 is done.
 pub fn answer_of(file: &[u8]) -> (u8, u16) {
-    load(file).map_or_else(|refusal| (refusal.number, refusal.place), |_| (0, 0))
+    answer_within(file, &Bounds::DOCUMENT_02)
+}
+
+/// Load's answer with these bounds.
+pub fn answer_within(file: &[u8], bounds: &Bounds) -> (u8, u16) {
+    read_within(file, bounds).map_or_else(|refusal| (refusal.number, refusal.place), |_| (0, 0))
 }
 
 /// One call on any record: the answer's number and the record handed back.

@@ -166,20 +166,20 @@ pub const BREAKS: &[Break] = &[
     Break { rule: 4, name: "segments 0, 63, 255", change: |_, _, f, w| set(f, N_AT, [0, SEGMENTS + 1, 255][w as usize]) },
     Break { rule: 4, name: "routes 0, 31, 255", change: |_, _, f, w| set(f, R_AT, [0, ROUTES + 1, 255][w as usize]) },
     Break { rule: 4, name: "byte 3", change: |_, _, f, w| set(f, ZERO_AT, [1, 128, 255][w as usize]) },
-    Break { rule: 4, name: "gmax 0, 1001, 65,535", change: |_, _, f, w| put16(f, GMAX_AT, [0, TOP_SPEED + 1, 65_535][w as usize]) },
+    Break { rule: 4, name: "gmax 0, 2001, 65,535", change: |_, _, f, w| put16(f, GMAX_AT, [0, TOP_SPEED + 1, 65_535][w as usize]) },
     Break { rule: 4, name: "b 0, gmax + 1, 65,535", change: |_, a, f, w| put16(f, B_AT, [0, a.gmax + 1, 65_535][w as usize]) },
-    Break { rule: 4, name: "d 0, 1,000,001, the greatest number", change: |_, _, f, w| put32(f, D_AT, [0, LONGEST + 1, u32::MAX][w as usize]) },
+    Break { rule: 4, name: "d 0, 4,000,001, the greatest number", change: |_, _, f, w| put32(f, D_AT, [0, LONGEST + 1, u32::MAX][w as usize]) },
     Break { rule: 4, name: "zero of the header", change: |r, _, f, w| zero_of(r, f, w, HEADER_ZEROS) },
     Break { rule: 5, name: "margin", change: |r, a, f, w| {
         let least = s(a.b.into(), a.gmax.into()) as usize;
         w.pick(r, 1, least - 1).is_some_and(|d| put32(f, D_AT, d as u32))
     } },
-    // the header is right up to a `d` of 1,000,000, and no length is: from 1,000,000 - gmax on none is above d + gmax
-    Break { rule: 6, name: "d up to 1,000,000", change: |r, a, f, w| {
+    // the header is right up to a `d` of 4,000,000, and no length is: from 4,000,000 - gmax on none is above d + gmax
+    Break { rule: 6, name: "d up to 4,000,000", change: |r, a, f, w| {
         w.pick(r, LONGEST as usize - usize::from(a.gmax), LONGEST as usize).is_some_and(|d| put32(f, D_AT, d as u32))
     } },
     Break { rule: 6, name: "length at its bound", change: |r, a, f, w| segment(r, a, w).is_some_and(|at| put32(f, at + LENGTH_AT, a.d + u32::from(a.gmax))) },
-    Break { rule: 6, name: "length over 1,000,000", change: |r, a, f, w| segment(r, a, w).is_some_and(|at| put32(f, at + LENGTH_AT, *r.of(&[LONGEST + 1, u32::MAX]))) },
+    Break { rule: 6, name: "length over 4,000,000", change: |r, a, f, w| segment(r, a, w).is_some_and(|at| put32(f, at + LENGTH_AT, *r.of(&[LONGEST + 1, u32::MAX]))) },
     Break { rule: 6, name: "length 0", change: |r, a, f, w| segment(r, a, w).is_some_and(|at| put32(f, at + LENGTH_AT, 0)) },
     Break { rule: 6, name: "limit 0", change: |r, a, f, w| segment(r, a, w).is_some_and(|at| put16(f, at + LIMIT_AT, 0)) },
     Break { rule: 6, name: "limit over gmax", change: |r, a, f, w| segment(r, a, w).is_some_and(|at| put16(f, at + LIMIT_AT, *r.of(&[a.gmax + 1, u16::MAX]))) },

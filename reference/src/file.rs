@@ -93,6 +93,12 @@ fn misfiled(number: usize, block: &[u8]) -> bool {
 /// "Load tests 1 to 10 in that order, each over the whole file." The tables of an accepted
 /// file, or the first rule broken with its place.
 pub fn read(file: &[u8]) -> Result<Tables, Refusal> {
+    read_within(file, &Bounds::DOCUMENT_02)
+}
+
+/// The same with these bounds: with those of document 01 it is what R-3 of document 02 calls
+/// "until now".
+pub fn read_within(file: &[u8], bounds: &Bounds) -> Result<Tables, Refusal> {
     let refuse = |number: u8, place: usize| Err(Refusal { number, place: place as u16 });
 
     // 1 size: "file not 2,560 bytes"
@@ -113,7 +119,7 @@ pub fn read(file: &[u8]) -> Result<Tables, Refusal> {
     }
     let tables = decode_tables(file);
     // 4 header: "version, bound or zero broken"
-    if file[VERSION_AT] != 1 || file[ZERO_AT] != 0 || !all_zero(&file[HEADER_ZEROS]) || tables.breaks_4() {
+    if file[VERSION_AT] != 1 || file[ZERO_AT] != 0 || !all_zero(&file[HEADER_ZEROS]) || tables.breaks_4(bounds) {
         return refuse(4, 0);
     }
     // 5 margin
@@ -122,7 +128,7 @@ pub fn read(file: &[u8]) -> Result<Tables, Refusal> {
     }
     // 6 segment, least record; the "five zeros" are not kept in the tables
     let zeros_broken = |number| !all_zero(&file[segment_start(number)..][SEGMENT_ZEROS]);
-    if let Some(number) = (1..=SEGMENTS).find(|&number| tables.breaks_6(number) || zeros_broken(number)) {
+    if let Some(number) = (1..=SEGMENTS).find(|&number| tables.breaks_6(number, bounds) || zeros_broken(number)) {
         return refuse(6, number.into());
     }
     // 7 joint, "least segment with such a link"

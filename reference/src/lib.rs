@@ -1,13 +1,13 @@
 //! One radio block area: segments, routes, trains.
 //!
 //! A second program, written from document 01, in `demand3` also from the words of demand 3 that it names, in `send` from request R-1 of
-//! document 02 and in the grant step and the record from its request R-2, of which the readings in docs/DECISIONS.md were given too; and
-//! from nothing else; to be read beside them. Sentences of the papers stand in quotation marks. Where a paper leaves something open, a
-//! comment begins with `reading:`.
+//! document 02, in the grant step and the record from its request R-2, of which the readings in docs/DECISIONS.md were given too, and in
+//! the bounds of rules 4 and 6 from its request R-3; and from nothing else; to be read beside them. Sentences of the papers stand in
+//! quotation marks. Where a paper leaves something open, a comment begins with `reading:`.
 
 // The modules in the order of document 01, then of document 02.
 
-// the paper's numbers, each named once
+// the papers' numbers, each named once; the bounds of `gmax`, `d` and lengths with R-3 of document 02
 pub mod numbers;
 
 // Units and braking
@@ -37,7 +37,8 @@ pub mod send;
 // a writer of files for tests, and Area A
 pub mod write;
 
-// the binary script and the state as bytes, random areas, lists and records, and the core's record: not of the papers
+// the binary script and the state as bytes, areas, lists and records for the comparison, and the core's record: not of the papers
+pub mod bounds;
 pub mod breaks;
 pub mod edges;
 #[cfg(feature = "rbu")]
@@ -47,14 +48,14 @@ pub mod random;
 pub mod script;
 pub mod state;
 
-pub use area::{answer_of, call_on, cycle, load, report_on, Area, Call};
+pub use area::{answer_of, answer_within, call_on, cycle, load, report_on, Area, Call};
 pub use braking::{b_rest, s};
 pub use demand3::Demand3;
-pub use file::{check, decode_tables, read, Refusal};
+pub use file::{check, decode_tables, read, read_within, Refusal};
 pub use numbers::*;
 pub use record::{sound, RawTrain, Record, GRANT, POSITION, REQUEST, SPEED};
 pub use send::{file_of, send};
 pub use state::{record_of, state_of};
 pub use tables::{Route, Segment, Tables, ENTRY, EXIT};
 pub use view::{route_view, route_view_start};
-pub use write::{area_a, full_area, merging_area, put_checks, Description, AREA_A_CYCLE, AREA_A_ENTRIES};
+pub use write::{area_a, full_area, like_area_a, merging_area, put_checks, shortest, Description, AREA_A_CYCLE, AREA_A_ENTRIES};

@@ -1,4 +1,4 @@
-//! The numbers of the paper that stand in more than one place, each named once; at the end, those of docs/FORMATS.md.
+//! The numbers of the papers that stand in more than one place, each named once; at the end, those of docs/FORMATS.md.
 
 use std::ops::Range;
 
@@ -14,10 +14,27 @@ pub const ROUTE_SEGMENTS: u8 = 31;
 pub const TRAINS: u8 = 24;
 /// "with 24 wishes"
 pub const WISHES: usize = 24;
-/// "`gmax`, 1 to 1000"
-pub const TOP_SPEED: u16 = 1000;
-/// "`d`, 1 to 1,000,000"; of a length: "over 1,000,000".
-pub const LONGEST: u32 = 1_000_000;
+
+/// The bounds that R-3 of document 02 widens: "Rules 4 and 6 read the new bounds", and no other rule does.
+#[derive(Clone, Copy, PartialEq, Eq, Debug)]
+pub struct Bounds {
+    /// the greatest `gmax`
+    pub top_speed: u16,
+    /// the greatest `d`, and the greatest length
+    pub longest: u32,
+}
+
+impl Bounds {
+    /// "`gmax`, 1 to 1000"; "`d`, 1 to 1,000,000"; of a length: "over 1,000,000".
+    pub const DOCUMENT_01: Bounds = Bounds { top_speed: 1000, longest: 1_000_000 };
+    /// In force: "`gmax` may be 1 to 2000; `d` and lengths may be up to 4,000,000."
+    pub const DOCUMENT_02: Bounds = Bounds { top_speed: 2000, longest: 4_000_000 };
+}
+
+/// The bounds in force.
+pub const TOP_SPEED: u16 = Bounds::DOCUMENT_02.top_speed;
+pub const LONGEST: u32 = Bounds::DOCUMENT_02.longest;
+
 /// A train's count, of document 02: "stops at 65,535".
 pub const LAST_COUNT: u16 = 65_535;
 

@@ -2,10 +2,10 @@
 
 use crate::area::Call;
 use crate::braking::s;
-use crate::numbers::{LAST_COUNT, LONGEST, ROUTES, ROUTE_SEGMENTS, SEGMENTS, TOP_SPEED, TRAINS, WISHES};
-use crate::record::{Record, GRANT, POSITION, REQUEST, SPEED};
+use crate::numbers::{Bounds, LAST_COUNT, LONGEST, ROUTES, ROUTE_SEGMENTS, SEGMENTS, TOP_SPEED, TRAINS, WISHES};
+use crate::record::{RawTrain, Record, GRANT, POSITION, REQUEST, SPEED};
 use crate::tables::{Segment, ENTRY, EXIT};
-use crate::write::{links_ahead, Description, Links};
+use crate::write::{links_ahead, shortest, Description, Links};
 
 pub struct Random(u64);
 
@@ -63,18 +63,32 @@ pub fn count(random: &mut Random) -> u16 {
     }
 }
 
-/// `gmax`, `b` and `d` that leave room for lengths; `d` is S(gmax) exactly one time in two. `lively`: few cycles a segment.
-fn speeds(random: &mut Random, lively: bool) -> (u16, u16, u32) {
-    loop {
-        let gmax = random.edgy(1, TOP_SPEED.into()) as u16;
-        let b = if lively { random.within(u64::from(gmax).div_ceil(3), gmax.into()) } else { random.edgy(1, gmax.into()) } as u16;
-        let least = s(b.into(), gmax.into());
-        let highest = u64::from(LONGEST) - u64::from(gmax) - 1;
-        if least <= highest {
-            let d = if lively || random.one_in(2) { least } else { random.edgy(least, highest) };
-            return (gmax, b, d as u32);
-        }
-    }
+/// `gmax`, `b` and `d` of an area.
+pub type Speeds = (u16, u16, u32);
+
+/// The bounds in force or those of document 01, so that areas at the bounds of both are drawn.
+fn bounds(random: &mut Random) -> Bounds {
+    *random.of(&[Bounds::DOCUMENT_01, Bounds::DOCUMENT_02])
+}
+
+/// Speeds that leave room for lengths.
+fn speeds(random: &mut Random, bounds: &Bounds, lively: bool) -> Speeds {
+    let gmax = random.edgy(1, bounds.top_speed.into()) as u16;
+    speeds_to(random, gmax, bounds.longest, lively)
+}
+
+/// The same with this `gmax`; `d` is S(gmax) exactly one time in two. `lively`: few cycles a segment.
+pub(crate) fn speeds_to(random: &mut Random, gmax: u16, longest: u32, lively: bool) -> Speeds {
+    let b = if lively { random.within(u64::from(gmax).div_ceil(3), gmax.into()) } else { random.edgy(1, gmax.into()) } as u16;
+    // with either bounds there is room for any S(gmax)
+    let (least, highest) = (s(b.into(), gmax.into()), greatest_d(gmax, longest).into());
+    let d = if lively || random.one_in(2) { least } else { random.edgy(least, highest) };
+    (gmax, b, d as u32)
+}
+
+/// The greatest `d` that a length is left for, "above `d` + `gmax`".
+fn greatest_d(gmax: u16, longest: u32) -> u32 {
+    longest - u32::from(gmax) - 1
 }
 
 /// Links that rise, two of each kind a segment at the most. One time in four a chain, with links over one segment: long routes.
@@ -110,11 +124,18 @@ fn links(random: &mut Random, n: usize) -> Links {
 
 /// An area that meets every rule.
 pub fn area(random: &mut Random, lively: bool) -> Description {
-    let (gmax, b, d) = speeds(random, lively);
+    let bounds = bounds(random);
+    let speeds = speeds(random, &bounds, lively);
+    area_with(random, speeds, bounds.longest, lively)
+}
+
+/// The same with these speeds, and lengths up to this one.
+pub(crate) fn area_with(random: &mut Random, (gmax, b, d): Speeds, longest: u32, lively: bool) -> Description {
     let n = random.edgy(1, SEGMENTS.into()) as usize;
     let links = links(random, n);
     let limits = limits(random, gmax, b, &links.0);
-    let segments = segments(random, lively, gmax, d, &limits, links);
+    let lengths = lengths(random, shortest(gmax, d), longest, n, lively);
+    let segments = segments(&lengths, &limits, links, || if lively { ENTRY | EXIT } else { random.within(0, 3) as u8 });
     let routes = (0..random.edgy(1, ROUTES.into())).map(|_| route(random, &segments)).collect();
     Description { gmax, b, d, segments, routes }
 }
@@ -122,19 +143,46 @@ pub fn area(random: &mut Random, lively: bool) -> Description {
 /// An area in which trains meet: each segment leads to the two after it, so that all but the first two are merges; it is lively, and has
 /// many routes.
 pub fn merges(random: &mut Random) -> Description {
-    let (gmax, b, d) = speeds(random, true);
+    let bounds = bounds(random);
+    let speeds @ (gmax, _, d) = speeds(random, &bounds, true);
     let n = random.within(5, SEGMENTS.into()) as u8;
-    // none so low that trains creep; no two so far apart that the drop rule is broken
-    let lowest = (gmax - b).max(gmax.div_ceil(2));
-    let limits: Vec<u16> = (0..n).map(|_| random.edgy(lowest.into(), gmax.into()) as u16).collect();
-    let segments = segments(random, true, gmax, d, &limits, links_ahead(n));
-    let mut routes = vec![];
-    for _ in 0..ROUTES {
+    let lengths = lengths(random, shortest(gmax, d), bounds.longest, n.into(), true);
+    // none so low that trains creep
+    line(random, speeds, gmax.div_ceil(2), &lengths, ROUTES)
+}
+
+/// An area of a faster line: `gmax` is above document 01's bound, one time in two the greatest, and every limit too. `b` is 1 for the
+/// most part, and lengths go up to the greatest.
+pub fn faster(random: &mut Random) -> Description {
+    let above = Bounds::DOCUMENT_01.top_speed + 1;
+    let gmax = if random.one_in(2) { TOP_SPEED } else { random.edgy(above.into(), TOP_SPEED.into()) as u16 };
+    let b = if random.one_in(4) { random.within(1, gmax.into()) as u16 } else { 1 };
+    let (least, highest) = (s(b.into(), gmax.into()), greatest_d(gmax, LONGEST).into());
+    let d = if random.one_in(4) { random.edgy(least, highest) } else { least } as u32;
+    // longer than document 01 allows: none by much, or up to the greatest, which one has
+    let shortest = shortest(gmax, d).max(Bounds::DOCUMENT_01.longest + 1);
+    let (n, lively) = (random.within(3, 8) as usize, random.one_in(2));
+    let mut lengths = lengths(random, shortest, LONGEST, n, lively);
+    if !lively {
+        lengths[random.within(0, n as u64 - 1) as usize] = LONGEST;
+    }
+    line(random, (gmax, b, d), above, &lengths, 6)
+}
+
+/// An area in which each segment leads to the two after it, with limits from `lowest` to `gmax`, and so many routes.
+fn line(random: &mut Random, (gmax, b, d): Speeds, lowest: u16, lengths: &[u32], routes: u8) -> Description {
+    let n = lengths.len() as u8;
+    // no two so far apart that the drop rule is broken
+    let lowest = lowest.max(gmax - b);
+    let limits: Vec<u16> = lengths.iter().map(|_| random.edgy(lowest.into(), gmax.into()) as u16).collect();
+    let segments = segments(lengths, &limits, links_ahead(n), || ENTRY | EXIT);
+    let mut listed = vec![];
+    for _ in 0..routes {
         let first = random.within(1, u64::from(n) - 1) as u8;
         let longest = random.within(2, ROUTE_SEGMENTS.into()) as usize;
-        routes.push(walk_on(random, &segments, vec![first], longest));
+        listed.push(walk_on(random, &segments, vec![first], longest));
     }
-    Description { gmax, b, d, segments, routes }
+    Description { gmax, b, d, segments, routes: listed }
 }
 
 /// Limits that meet the drop rule.
@@ -149,21 +197,20 @@ fn limits(random: &mut Random, gmax: u16, b: u16, next: &[[u8; 2]]) -> Vec<u16> 
     limits
 }
 
-/// Segments with these limits and links.
-fn segments(random: &mut Random, lively: bool, gmax: u16, d: u32, limits: &[u16], (next, previous): Links) -> Vec<Segment> {
-    let shortest = u64::from(d) + u64::from(gmax) + 1;
-    (0..limits.len())
-        .map(|s| Segment {
-            length: if lively {
-                random.within(shortest, (shortest + shortest / 4).min(LONGEST.into()))
-            } else {
-                random.edgy(shortest, LONGEST.into())
-            } as u32,
-            limit: limits[s],
-            next: next[s],
-            previous: previous[s],
-            flags: if lively { ENTRY | EXIT } else { random.within(0, 3) as u8 },
-        })
+/// So many lengths. `lively`: none much above the shortest.
+fn lengths(random: &mut Random, shortest: u32, longest: u32, n: usize, lively: bool) -> Vec<u32> {
+    let (low, high) = (shortest.into(), longest.into());
+    let length = |random: &mut Random| match lively {
+        true => random.within(low, (low + low / 4).min(high)),
+        false => random.edgy(low, high),
+    };
+    (0..n).map(|_| length(random) as u32).collect()
+}
+
+/// Segments with these lengths, limits and links.
+fn segments(lengths: &[u32], limits: &[u16], (next, previous): Links, mut flags: impl FnMut() -> u8) -> Vec<Segment> {
+    (0..lengths.len())
+        .map(|k| Segment { length: lengths[k], limit: limits[k], next: next[k], previous: previous[k], flags: flags() })
         .collect()
 }
 
@@ -274,19 +321,51 @@ pub fn meeting(random: &mut Random, area: &Description, record: &Record) -> Owne
     if random.one_in(16) {
         return call(random, area, record.due);
     }
-    let numbers = |is: &dyn Fn(u8) -> bool| (1..=TRAINS).filter(|&number| is(number)).collect::<Vec<u8>>();
-    let off = numbers(&|number| !record.train(number).is_on());
-    let at_the_end = numbers(&|number| record.train(number).is_on() && record.train(number).next(&record.tables).is_none());
+    let (off, at_the_end) = (off(record), at_the_end(record));
     match random.draw() % 8 {
-        0 | 1 if !off.is_empty() => {
-            let route = random.within(1, area.routes.len() as u64) as u16;
-            let first = area.segment(area.routes[usize::from(route) - 1][0]);
-            Owned::Enter((*random.of(&off)).into(), route, random.edgy(0, first.limit.into()) as u16)
-        }
+        0 | 1 if !off.is_empty() => entering(random, area, &off),
         2..=4 if !at_the_end.is_empty() => Owned::Leave((*random.of(&at_the_end)).into()),
-        _ => step_of(record.due, || {
-            let some = random.one_in(4);
-            (0..WISHES).map(|_| if some && random.one_in(2) { 0 } else { area.gmax }).collect()
-        }),
+        _ => step_of(record.due, || held_back(random, area, 4)),
     }
+}
+
+/// A call by which trains get far: seldom any call, otherwise a few trains enter, run on as fast as they may, seldom held back, and leave
+/// long after they came to their route's end.
+pub fn running(random: &mut Random, area: &Description, record: &Record) -> Owned {
+    if random.one_in(64) {
+        return call(random, area, record.due);
+    }
+    let (off, at_the_end) = (off(record), at_the_end(record));
+    let on = usize::from(TRAINS) - off.len();
+    match random.draw() % 512 {
+        0..=31 if on < 3 => entering(random, area, &off),
+        32 | 33 if !at_the_end.is_empty() => Owned::Leave((*random.of(&at_the_end)).into()),
+        _ => step_of(record.due, || held_back(random, area, 32)),
+    }
+}
+
+/// The numbers of trains that are off, and of those at their route's end.
+fn off(record: &Record) -> Vec<u8> {
+    numbers(record, |train| !train.is_on())
+}
+
+fn at_the_end(record: &Record) -> Vec<u8> {
+    numbers(record, |train| train.is_on() && train.next(&record.tables).is_none())
+}
+
+fn numbers(record: &Record, is: impl Fn(&RawTrain) -> bool) -> Vec<u8> {
+    (1..=TRAINS).filter(|&number| is(record.train(number))).collect()
+}
+
+/// One of these trains enters, at a speed that its segment allows.
+fn entering(random: &mut Random, area: &Description, off: &[u8]) -> Owned {
+    let route = random.within(1, area.routes.len() as u64) as u16;
+    let first = area.segment(area.routes[usize::from(route) - 1][0]);
+    Owned::Enter((*random.of(off)).into(), route, random.edgy(0, first.limit.into()) as u16)
+}
+
+/// All wishes at the top speed; one time in so many about half of them at 0.
+fn held_back(random: &mut Random, area: &Description, rare: u64) -> Vec<u16> {
+    let some = random.one_in(rare);
+    (0..WISHES).map(|_| if some && random.one_in(2) { 0 } else { area.gmax }).collect()
 }

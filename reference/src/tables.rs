@@ -4,7 +4,7 @@
 //! version and zeros) and the sound record ("Tables meet 4 to 10").
 
 use crate::braking::s;
-use crate::numbers::{LONGEST, ROUTES, ROUTE_SEGMENTS, SEGMENTS, TOP_SPEED};
+use crate::numbers::{Bounds, ROUTES, ROUTE_SEGMENTS, SEGMENTS};
 
 /// "flags (1 entry, 2 exit, sum of both)"
 pub const ENTRY: u8 = 1;
@@ -83,14 +83,15 @@ impl Tables {
         &self.routes[usize::from(number) - 1]
     }
 
-    /// 4 header: "segments N, 1 to 62"; "routes R, 1 to 30"; "`gmax`, 1 to 1000"; "`b`, 1 to
-    /// `gmax`"; "`d`, 1 to 1,000,000".
-    pub(crate) fn breaks_4(&self) -> bool {
+    /// 4 header: "segments N, 1 to 62"; "routes R, 1 to 30"; "`b`, 1 to `gmax`"; R-3 of document
+    /// 02: "`gmax` may be 1 to 2000; `d` .. may be up to 4,000,000".
+    // reading: `d` is still 1 at the least, and `b` reads the new bound by `gmax`.
+    pub(crate) fn breaks_4(&self, bounds: &Bounds) -> bool {
         !(1..=SEGMENTS).contains(&self.n)
             || !(1..=ROUTES).contains(&self.r)
-            || !(1..=TOP_SPEED).contains(&self.gmax)
+            || !(1..=bounds.top_speed).contains(&self.gmax)
             || !(1..=self.gmax).contains(&self.b)
-            || !(1..=LONGEST).contains(&self.d)
+            || !(1..=bounds.longest).contains(&self.d)
     }
 
     /// 5 margin: "`d` < S(`gmax`)".
@@ -99,16 +100,16 @@ impl Tables {
     }
 
     /// 6 segment, of the record with this number, 1 to 62.
-    pub(crate) fn breaks_6(&self, number: u8) -> bool {
+    pub(crate) fn breaks_6(&self, number: u8, bounds: &Bounds) -> bool {
         let segment = self.segment(number);
         if number > self.n {
             // "a record above N not all zero"
             return *segment != Segment::ZERO;
         }
-        // "length not above `d` + `gmax` or over 1,000,000"
+        // "length not above `d` + `gmax` or over" its bound; R-3 of document 02: "lengths may be up to 4,000,000"
         let length = u64::from(segment.length);
         length <= u64::from(self.d) + u64::from(self.gmax)
-            || segment.length > LONGEST
+            || segment.length > bounds.longest
             // "limit not 1 to `gmax`"
             || !(1..=self.gmax).contains(&segment.limit)
             // "link over N; a second link that is not 0 while the first is 0 or the same number"
@@ -163,10 +164,12 @@ impl Tables {
     /// "Tables meet 4 to 10."
     // reading: as far as the tables keep what the rules speak of; version and zero bytes of
     // the file are not kept.
+    // reading: the bounds are those in force, R-3's of document 02, as for load.
     pub fn meet_4_to_10(&self) -> bool {
-        !self.breaks_4()
+        let bounds = &Bounds::DOCUMENT_02;
+        !self.breaks_4(bounds)
             && !self.breaks_5()
-            && !(1..=SEGMENTS).any(|number| self.breaks_6(number))
+            && !(1..=SEGMENTS).any(|number| self.breaks_6(number, bounds))
             && !(1..=self.n).any(|number| self.breaks_7(number))
             && !(1..=self.n).any(|number| self.breaks_8(number))
             && !(1..=self.n).any(|number| self.breaks_9(number))

@@ -88,6 +88,20 @@ pub fn area_a() -> Description {
     }
 }
 
+/// The least length that rule 6 allows: "above `d` + `gmax`".
+pub fn shortest(gmax: u16, d: u32) -> u32 {
+    d + u32::from(gmax) + 1
+}
+
+/// Area A's shape with another `gmax`, `b` and `d`: every limit is `gmax`, and every length the least.
+pub fn like_area_a(gmax: u16, b: u16, d: u32) -> Description {
+    let mut area = Description { gmax, b, d, ..area_a() };
+    for segment in &mut area.segments {
+        (segment.length, segment.limit) = (shortest(gmax, d), gmax);
+    }
+    area
+}
+
 /// Document 01's program on Area A: "enters train 1 on route 1 at 250 and train 2 on route 2 at 200, runs six cycles with all wishes
 /// 300": the entries, and the steps of a cycle.
 pub const AREA_A_ENTRIES: [Call; 2] = [Call::Enter { train: 1, route: 1, speed: 250 }, Call::Enter { train: 2, route: 2, speed: 200 }];

@@ -73,7 +73,7 @@ fn the_middle_is_strictly_between_first_and_last() {
     }
 }
 
-/// The header is right with a `d` of 1,000,000, and wrong one above.
+/// The header is right with a `d` of 4,000,000, and wrong one above.
 #[test]
 fn bounds_of_d() {
     let mut random = Random::new(9);
@@ -82,8 +82,8 @@ fn bounds_of_d() {
         let file = broken(&mut random, &made, name, place).unwrap();
         (u32::from_le_bytes(file[D_AT..D_AT + 4].try_into().unwrap()), answer(file))
     };
-    assert_eq!(at("d up to 1,000,000", Where::Last), (LONGEST, (6, 1)));
-    assert_eq!(at("d 0, 1,000,001, the greatest number", Where::Middle), (LONGEST + 1, (4, 0)));
+    assert_eq!(at("d up to 4,000,000", Where::Last), (LONGEST, (6, 1)));
+    assert_eq!(at("d 0, 4,000,001, the greatest number", Where::Middle), (LONGEST + 1, (4, 0)));
 }
 
 /// Only the stored check is wrong with these: with it set right, a later rule speaks.

@@ -103,6 +103,9 @@ fn header_4() {
     {
         assert_eq!(changed(|a| (a.gmax, a.b, a.d) = (gmax, b, d)), (4, 0));
     }
+    // bounds far beyond
+    assert_eq!(changed(|a| a.gmax = u16::MAX), (4, 0));
+    assert_eq!(changed(|a| a.d = u32::MAX), (4, 0));
     // at the bounds, the later rules speak
     assert_eq!(changed(|a| (a.gmax, a.b, a.d) = (TOP_SPEED, 1, LONGEST)), (6, 1));
     assert_eq!(changed(|a| (a.gmax, a.b, a.d) = (300, 300, 300)), (0, 0));

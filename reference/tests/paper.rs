@@ -2,11 +2,13 @@
 
 use reference::*;
 
-/// The numbers as the paper writes them, and how they hang together.
+/// The numbers as the papers write them, and how they hang together.
 #[test]
 fn numbers_of_the_paper() {
     assert_eq!((SEGMENTS, ROUTES, ROUTE_SEGMENTS, TRAINS, WISHES), (62, 30, 31, 24, 24));
-    assert_eq!((TOP_SPEED, LONGEST, LAST_COUNT), (1000, 1_000_000, 65_535));
+    assert_eq!(Bounds::DOCUMENT_01, Bounds { top_speed: 1000, longest: 1_000_000 });
+    assert_eq!(Bounds::DOCUMENT_02, Bounds { top_speed: 2000, longest: 4_000_000 });
+    assert_eq!((TOP_SPEED, LONGEST, LAST_COUNT), (2000, 4_000_000, 65_535));
     assert_eq!((BLOCKS, BLOCK_SIZE, FILE_SIZE), (5, 512, 2560));
     assert_eq!(FILE_SIZE, BLOCKS * BLOCK_SIZE);
     // two blocks of segments, two of routes
@@ -29,9 +31,13 @@ fn certain_values_of_s_and_b() {
         assert_eq!(s(b, v), way, "S({v}) with b = {b}");
     }
     assert_eq!(b_rest(10, 300), 4350);
+    // R-3 of document 02: "b = 1 and v = 2000 gives 2,001,000"
+    // reading: gives S, which b = 1 and v = 1000 gives in document 01.
+    assert_eq!((s(1, 2000), b_rest(1, 2000)), (2_001_000, 1_999_000));
 }
 
-/// "v + (v − b) + (v − 2b) + .. while the terms are positive", term by term.
+/// "v + (v − b) + (v − 2b) + .. while the terms are positive", term by term. R-3 of document 02: "The braking distance must be right for
+/// all speeds up to 2000".
 #[test]
 fn s_is_the_sum_of_its_terms() {
     for b in 1..=u32::from(TOP_SPEED) + 1 {

@@ -47,6 +47,30 @@ fn document_01s_listing() {
     assert_eq!(lines, LISTING.lines().collect::<Vec<_>>());
 }
 
+/// Area A's track at the greatest speed and lengths: its file, made by a write, and a train on it; one past a bound is unsound.
+#[test]
+fn a_fast_line() {
+    let mut record = *Area::start(AREA_A).unwrap().record();
+    record.tables = Tables { gmax: FASTEST, braking: 1, margin: braking_distance(1, FASTEST), ..record.tables };
+    record.tables.lengths[..3].fill(LONGEST);
+    record.tables.limits[..3].fill(FASTEST);
+    let mut file = [0; FILE_SIZE];
+    assert_eq!(Area::of_record(record).write(&mut file), Ok(()));
+    let mut area = Area::start(&file).unwrap();
+    assert_eq!(*area.record(), record);
+    assert_eq!((area.enter(1, 1, FASTEST + 1), area.enter(1, 1, FASTEST)), (refusal(19, 0), Ok(())));
+    for cycle in 1..=3 {
+        assert_eq!(area.speed(&[u16::MAX; TRAINS]).and(area.request()).and(area.grant()).and(area.position()), Ok(()));
+        assert_eq!(area.record().trains[0].position, cycle * u32::from(FASTEST));
+    }
+    let past: [fn(&mut Tables); 3] = [|tables| tables.gmax += 1, |tables| tables.margin = LONGEST + 1, |tables| tables.lengths[2] += 1];
+    for change in past {
+        let mut record = record;
+        change(&mut record.tables);
+        assert_eq!((Area::of_record(record).is_sound(), Area::of_record(record).write(&mut file)), (false, refusal(11, 0)));
+    }
+}
+
 #[test]
 fn the_file_again() {
     for cycles in 0..=6 {
@@ -186,7 +210,10 @@ fn views_and_braking() {
     assert_eq!([0, 1, 2, 3, 257].map(|route| view(AREA_A, route).to_vec()), [vec![], vec![1, 3], vec![2, 3], vec![], vec![]]);
     assert_eq!((view(AREA_A, 2).as_ptr(), bytes::view(AREA_A, 2)), (AREA_A[1569..].as_ptr(), (1569, 2)));
     assert_eq!((view(&[], 1), bytes::view(&[], 1)), (&[][..], (0, 0)));
-    assert_eq!([(10, 300), (10, 0), (1000, 1000), (0, 7)].map(|(rate, speed)| braking_distance(rate, speed)), [4650, 0, 1000, 0]);
+    assert_eq!(
+        [(10, 300), (10, 0), (1000, 1000), (1, FASTEST), (0, 7)].map(|(rate, speed)| braking_distance(rate, speed)),
+        [4650, 0, 1000, 2_001_000, 0]
+    );
 }
 
 /// A record that was damaged: unsound, or another one that is sound.

@@ -4,7 +4,8 @@
 //!     areas verdicts      writes, for each file, its name and the line that `verdict` must print for it
 //!     areas entries       writes, for each file on which `area_a` is refused an entry, its name and the line that it must print
 //!
-//! Each file is Area A of document 01 with one thing changed, but for `full`, which has every segment and every route.
+//! Each file is Area A of document 01 with one thing changed, but for `full`, which has every segment and every route, and for
+//! `fast_line` and those at the bounds of R-3 of document 02, which have Area A's shape with speeds and lengths that fit.
 use reference::file::{route_start, segment_start};
 use reference::*;
 use std::io::Write;
@@ -33,6 +34,15 @@ fn damaged(at: usize, byte: u8) -> Vec<u8> {
     file
 }
 
+/// A line at 180 km/h, which is 2000 decimetres in a cycle of four seconds; a cycle of full braking takes 100 off.
+fn fast_line() -> Description {
+    let mut line = like_area_a(TOP_SPEED, 100, 21_000);
+    for (segment, (length, limit)) in line.segments.iter_mut().zip([(40_000, 2000), (35_000, 1900), (50_000, 1900)]) {
+        (segment.length, segment.limit) = (length, limit);
+    }
+    line
+}
+
 /// Every file, with what `verdict` must print for it.
 fn files() -> Vec<(&'static str, Vec<u8>, &'static str)> {
     let a = area_a().file();
@@ -50,9 +60,12 @@ fn files() -> Vec<(&'static str, Vec<u8>, &'static str)> {
     let mut stored_255 = patched(2 * BLOCK_SIZE + 100, 251);
     assert_eq!(stored_255[2 * BLOCK_SIZE + CHECK_AT], 0);
     stored_255[2 * BLOCK_SIZE + CHECK_AT] = 255;
+    // all lengths are 4,000,000, which is above d + gmax with a `d` one less
+    let margin_3999999 = Description { d: LONGEST - 1, ..like_area_a(1, 1, LONGEST - 2) };
     vec![
         ("area_a", a.clone(), "0 0 done/segments 3 routes 2"),
         ("full", full_area().file(), "0 0 done/segments 62 routes 30"),
+        ("fast_line", fast_line().file(), "0 0 done/segments 3 routes 2"),
         ("no_entry", planned(|p| p.segments[1].flags = 0), "0 0 done/segments 3 routes 2"),
         ("one_entry", planned(|p| p.routes[1] = vec![1, 3]), "0 0 done/segments 3 routes 2"),
         ("limit_249", planned(|p| p.segments[0].limit = 249), "0 0 done/segments 3 routes 2"),
@@ -75,16 +88,26 @@ fn files() -> Vec<(&'static str, Vec<u8>, &'static str)> {
         ("segments_63", patched(N_AT, SEGMENTS + 1), "4 0 header"),
         ("no_routes", patched(R_AT, 0), "4 0 header"),
         ("routes_31", patched(R_AT, ROUTES + 1), "4 0 header"),
-        ("gmax_1001", planned(|p| p.gmax = TOP_SPEED + 1), "4 0 header"),
+        ("gmax_1001", like_area_a(1001, 1001, 1001).file(), "0 0 done/segments 3 routes 2"),
+        ("gmax_2000", like_area_a(TOP_SPEED, 10, 201_000).file(), "0 0 done/segments 3 routes 2"),
+        ("gmax_2001", like_area_a(TOP_SPEED + 1, 10, 201_201).file(), "4 0 header"),
         ("no_braking", planned(|p| p.b = 0), "4 0 header"),
         ("braking_301", planned(|p| p.b = 301), "4 0 header"),
-        ("margin_1000001", planned(|p| p.d = LONGEST + 1), "4 0 header"),
+        ("margin_1000001", like_area_a(300, 10, 1_000_001).file(), "0 0 done/segments 3 routes 2"),
+        ("margin_3999998", like_area_a(1, 1, LONGEST - 2).file(), "0 0 done/segments 3 routes 2"),
+        ("margin_3999999", margin_3999999.file(), "6 1 segment"),
+        ("margin_4000000", planned(|p| p.d = LONGEST), "6 1 segment"),
+        ("margin_4000001", planned(|p| p.d = LONGEST + 1), "4 0 header"),
         ("margin_4649", planned(|p| p.d = 4649), "5 0 margin"),
+        ("margin_2000999", like_area_a(TOP_SPEED, 1, 2_000_999).file(), "5 0 margin"),
+        ("margin_2001000", like_area_a(TOP_SPEED, 1, 2_001_000).file(), "0 0 done/segments 3 routes 2"),
         ("two_segments", patched(N_AT, 2), "6 1 segment"),
         ("length_4950", planned(|p| p.segments[1].length = 4950), "6 2 segment"),
         ("length_4951", planned(|p| p.segments[1].length = 4951), "0 0 done/segments 3 routes 2"),
-        ("length_1000000", planned(|p| p.segments[2].length = LONGEST), "0 0 done/segments 3 routes 2"),
-        ("length_1000001", planned(|p| p.segments[2].length = LONGEST + 1), "6 3 segment"),
+        ("length_1000000", planned(|p| p.segments[2].length = 1_000_000), "0 0 done/segments 3 routes 2"),
+        ("length_1000001", planned(|p| p.segments[2].length = 1_000_001), "0 0 done/segments 3 routes 2"),
+        ("length_4000000", planned(|p| p.segments[2].length = LONGEST), "0 0 done/segments 3 routes 2"),
+        ("length_4000001", planned(|p| p.segments[2].length = LONGEST + 1), "6 3 segment"),
         ("limit_0", planned(|p| p.segments[0].limit = 0), "6 1 segment"),
         ("limit_301", planned(|p| p.segments[0].limit = 301), "6 1 segment"),
         ("link_4", planned(|p| p.segments[2].next = [4, 0]), "6 3 segment"),
@@ -124,11 +147,12 @@ fn files() -> Vec<(&'static str, Vec<u8>, &'static str)> {
 }
 
 /// The accepted files on which an entry of `area_a` is refused, with the line that it must print.
-const ENTRIES: [(&str, &str); 4] = [
+const ENTRIES: [(&str, &str); 5] = [
     ("no_entry", "enter of train 2: 17 0 no entry"),
     ("one_entry", "enter of train 2: 18 0 taken"),
     ("limit_249", "enter of train 1: 19 0 too fast"),
     ("single_route", "enter of train 2: 16 0 route number"),
+    ("margin_3999998", "enter of train 1: 19 0 too fast"),
 ];
 
 fn main() {

@@ -1,6 +1,7 @@
 //! The core and the second program on the same inputs, in one process: microseconds each and the ratio core / second program. Then the
 //! core alone: a call on a record that is kept, and the same call inside a run. It ends with status 1 where a load, a write or a call of
-//! the core takes longer than the second program's, or a call on a kept record too much longer than inside a run.
+//! the core takes longer than the second program's, or a call on a kept record too much longer than inside a run. The rows of a faster
+//! line stand apart and end nothing: there the core sums up to 2000 terms of S one by one, where the second program has its closed form.
 //! Both programs test the whole record at every call and at every write. In the replays and the writes the buffers, for answers and state
 //! or for the file, are not cleared between runs; for a single call the state, or the kept record, is copied anew before each run, with
 //! and without the call.
@@ -142,13 +143,68 @@ fn calls(name: &str, description: &Description, trains: u16) -> Vec<Times> {
         times.push(one_call(format!("{step}, {name}"), &file, &area, call));
         area.call(call);
     }
-    let mut area = at_the_last(&area, trains as u8);
-    for (step, call) in [("leave", Call::Leave { train: trains }), ("enter", Call::Enter { train: trains, route: trains, speed: 0 })] {
-        times.push(one_call(format!("{step}, {name}"), &file, &area, &call));
-        area.call(&call);
-    }
+    times.extend(leave_and_enter(name, &file, &area, trains));
     times.push(Times::mean(format!("mean call, {name}"), &times));
     times
+}
+
+fn leave_and_enter(name: &str, file: &[u8], area: &Area, train: u16) -> [Times; 2] {
+    let mut area = at_the_last(area, train as u8);
+    [("leave", Call::Leave { train }), ("enter", Call::Enter { train, route: train, speed: 0 })].map(|(step, call)| {
+        let times = one_call(format!("{step}, {name}"), file, &area, &call);
+        area.call(&call);
+        times
+    })
+}
+
+/// Area A's shape at the greatest `gmax`. `d` has room for the longest braking distance and a cycle at the top speed, so that a train can
+/// be near at that speed with any step due.
+fn faster_area(b: u16) -> Description {
+    like_area_a(TOP_SPEED, b, s(1, TOP_SPEED.into()) as u32 + u32::from(TOP_SPEED))
+}
+
+/// Trains 1 and 2 where they just are near, at the top speed and without their next segment: their braking distances are needed.
+fn at_top_speed(file: &[u8], due: u8) -> Area {
+    let mut record = Record { due, ..load(file).expect("the area is accepted").record() };
+    for number in 1..=2 {
+        let position = record.tables.segment(number).length - record.tables.d;
+        let asks = u8::from(due == GRANT);
+        record.trains[usize::from(number) - 1] = RawTrain { route: number, place: 1, position, speed: TOP_SPEED, asks, count: 0 };
+        record.allocations[usize::from(number) - 1] = number;
+    }
+    Area::from_record(&record).expect("the record is sound")
+}
+
+/// The calls on that area, each with both trains there, and their mean.
+fn faster_calls(name: &str, description: &Description) -> Vec<Times> {
+    let file = description.file();
+    let mut times = vec![];
+    for (due, (step, call)) in (SPEED..).zip(["speed", "request", "grant", "position"].into_iter().zip(&cycle(&[TOP_SPEED; WISHES]))) {
+        times.push(one_call(format!("{step}, {name}"), &file, &at_top_speed(&file, due), call));
+    }
+    times.extend(leave_and_enter(name, &file, &at_top_speed(&file, SPEED), 2));
+    times.push(Times::mean(format!("mean call, {name}"), &times));
+    times
+}
+
+/// The area of a faster line, with as many terms of S as there can be and with one.
+fn faster_line() {
+    println!("a faster line; with b 1 the core sums {TOP_SPEED} terms of S, with b {TOP_SPEED} one; these rows end nothing");
+    println!("{:40} {:>9} {:>9} {:>8}", "microseconds", "core", "second", "ratio");
+    let mut times = vec![];
+    for b in [1, TOP_SPEED] {
+        let (name, area) = (format!("gmax {TOP_SPEED}, b {b}"), faster_area(b));
+        loads(&name, &area.file());
+        times.extend(faster_calls(&name, &area));
+    }
+    times.iter().for_each(|one| line(&one.name, one.core, one.second));
+    print_kept(&times);
+}
+
+fn print_kept(times: &[Times]) {
+    println!("a call on a record that is kept, and the same call inside a run");
+    println!("{:40} {:>9} {:>9} {:>8}", "microseconds", "kept", "in a run", "ratio");
+    times.iter().for_each(|one| line(&one.name, one.kept, one.core));
 }
 
 /// The grant step with all trains asking, two for each segment: with equal counts, and with higher counts for the lower numbers.
@@ -212,9 +268,8 @@ fn main() {
     times.push(replay("Area A", &area_a(), 2));
     times.push(replay("full area", &full_area(), TRAINS.into()));
     times.iter().for_each(|one| line(&one.name, one.core, one.second));
-    println!("a call on a record that is kept, and the same call inside a run");
-    println!("{:40} {:>9} {:>9} {:>8}", "microseconds", "kept", "in a run", "ratio");
-    times.iter().for_each(|one| line(&one.name, one.kept, one.core));
+    print_kept(&times);
+    faster_line();
     let slow_file = loads.iter().chain(&writes).any(|&ratio| ratio > MOST_OF_THE_SECOND);
     if slow_file {
         println!("bench: a load or a write of the core takes over {MOST_OF_THE_SECOND:.1} of the second program's");

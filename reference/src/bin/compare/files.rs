@@ -1,5 +1,6 @@
 //! Files: load's answer, the views of routes, and what a list and a start make of them.
 use crate::{counted, fail, kept, loaded, same, same_bytes};
+use reference::bounds::AT_BOUNDS;
 use reference::breaks::{from_rule, BREAKS, PLACES};
 use reference::random::{self, Random};
 use reference::script::script_of;
@@ -7,24 +8,28 @@ use reference::*;
 
 const FILES: u32 = 200_000;
 const EACH_RULE: u64 = 500;
+const EACH_EXTREME: u64 = 20;
+const EACH_BOUND: u64 = 200;
 
 /// Whether an area has an extreme.
 type Has = fn(&Description) -> bool;
 
 /// The extremes that an accepted area can have.
-const EXTREMES: [(&str, Has); 14] = [
+const EXTREMES: [(&str, Has); 16] = [
     ("1 segment", |a| a.segments.len() == 1),
     ("62 segments", |a| a.segments.len() == SEGMENTS.into()),
     ("1 route", |a| a.routes.len() == 1),
     ("30 routes", |a| a.routes.len() == ROUTES.into()),
     ("a route of 31", |a| a.routes.iter().any(|route| route.len() == ROUTE_SEGMENTS.into())),
     ("gmax 1", |a| a.gmax == 1),
-    ("gmax 1000", |a| a.gmax == TOP_SPEED),
+    ("gmax 1000", |a| a.gmax == 1000),
+    ("gmax 2000", |a| a.gmax == 2000),
     ("b 1", |a| a.b == 1),
     ("b = gmax", |a| a.b == a.gmax),
     ("d = S(gmax)", |a| u64::from(a.d) == s(a.b.into(), a.gmax.into())),
-    ("the least length", |a| a.segments.iter().any(|segment| segment.length == a.d + u32::from(a.gmax) + 1)),
-    ("the greatest length", |a| a.segments.iter().any(|segment| segment.length == LONGEST)),
+    ("the least length", |a| a.segments.iter().any(|segment| segment.length == shortest(a.gmax, a.d))),
+    ("length 1,000,000", |a| a.segments.iter().any(|segment| segment.length == 1_000_000)),
+    ("length 4,000,000, the greatest", |a| a.segments.iter().any(|segment| segment.length == 4_000_000)),
     ("the drop rule met with equality", |a| {
         a.segments.iter().any(|segment| segment.next_links().any(|next| a.segment(next).limit + a.b == segment.limit))
     }),
@@ -43,6 +48,7 @@ struct Seen<'a> {
     extremes: [u32; EXTREMES.len()],
     /// by break: first, middle and last place
     breaks: Vec<[u32; 3]>,
+    bounds: [u64; AT_BOUNDS.len()],
     random: u32,
     random_beyond_3: u32,
 }
@@ -57,6 +63,7 @@ pub fn compare(seed: u64, kept: &mut kept::Seen) {
         views: 0,
         extremes: [0; EXTREMES.len()],
         breaks: vec![[0; 3]; BREAKS.len()],
+        bounds: [0; AT_BOUNDS.len()],
         random: 0,
         random_beyond_3: 0,
     };
@@ -73,6 +80,7 @@ pub fn compare(seed: u64, kept: &mut kept::Seen) {
         seen.broken_together(&mut random, &area, &whole);
         seen.random_bytes(&mut random, &whole);
     }
+    seen.at_bounds(&mut random);
     seen.print();
 }
 
@@ -132,6 +140,19 @@ impl Seen<'_> {
         }
     }
 
+    /// Each bound of `gmax`, `d` and lengths, and one past it. The answer is the one that is known, not only the same from both.
+    fn at_bounds(&mut self, random: &mut Random) {
+        for (k, bound) in AT_BOUNDS.iter().enumerate() {
+            for _ in 0..EACH_BOUND {
+                let (area, [right, _]) = bound.made(random);
+                let file = area.file();
+                self.file(random, &file, bound.name);
+                same(self.seed, bound.name, rbu::bytes::load(&file), right);
+                self.bounds[k] += 1;
+            }
+        }
+    }
+
     fn broken_together(&mut self, random: &mut Random, area: &Description, whole: &[u8]) {
         for _ in 0..10 {
             let mut file = whole.to_vec();
@@ -174,7 +195,10 @@ impl Seen<'_> {
             counted(format_args!("files: answer {rule}"), count, EACH_RULE);
         }
         for ((name, _), count) in EXTREMES.iter().zip(self.extremes) {
-            counted(format_args!("files: accepted, {name}"), count, 1);
+            counted(format_args!("files: accepted, {name}"), count, EACH_EXTREME);
+        }
+        for (bound, count) in AT_BOUNDS.iter().zip(self.bounds) {
+            counted(format_args!("files: {}, answer {}", bound.name, bound.answers[0]), count, EACH_BOUND);
         }
         for (one, hits) in BREAKS.iter().zip(&self.breaks) {
             println!("files: rule {}, {}: first {}, middle {}, last {}", one.rule, one.name, hits[0], hits[1], hits[2]);

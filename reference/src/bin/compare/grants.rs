@@ -175,12 +175,13 @@ impl Made {
             let lively = random.one_in(2);
             let area = if random.one_in(4) { random::area(&mut random, lively) } else { random::merges(&mut random) };
             let file = area.file();
-            let tables = *loaded(seed, &file).tables();
+            let loaded = loaded(seed, &file);
+            kept.start(&file, &loaded.record());
             for _ in 0..20 {
-                let merging = merging_record(&mut random, &tables);
+                let merging = merging_record(&mut random, loaded.tables());
                 made.grant(&mut random, &file, &merging, kept);
                 made.off(&mut random, &area, &file, &merging.before, kept);
-                made.leave_and_enter(&mut random, &file, &tables, kept);
+                made.leave_and_enter(&mut random, &file, loaded.tables(), kept);
             }
         }
         println!("made: {} records with trains before merges compared", made.records);

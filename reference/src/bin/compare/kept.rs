@@ -1,5 +1,7 @@
 //! The core on a record that is kept between calls: what every start and every call leaves there, field by field, its soundness and its
-//! report. The files, the lists and the records tell it theirs, and it tells them on to what is sent back out.
+//! report. The files, the lists and the records tell it theirs, and it tells them on to what is sent back out, and the files to what the
+//! bounds of document 01 say.
+use crate::bounds;
 use crate::sent::{self, Source};
 use crate::{counted, differ, fail, same, Answers};
 use reference::kept::{call_kept, kept_of, record_of_kept, tables_of, trains_of};
@@ -39,6 +41,7 @@ pub struct Seen {
     unsound_by_asks: u64,
     unsound_by_counts: u64,
     sent: sent::Seen,
+    bounds: bounds::Seen,
 }
 
 /// A kept record and what the second program has beside it. The tables change at a start and at no call, so they are laid out once.
@@ -113,6 +116,7 @@ impl Seen {
             unsound_by_asks: 0,
             unsound_by_counts: 0,
             sent: sent::Seen::new(seed),
+            bounds: bounds::Seen::new(seed),
         }
     }
 
@@ -125,11 +129,12 @@ impl Seen {
     }
 
     /// A start over bytes that must not show.
-    fn started(&self, file: &[u8], second: &Record) -> Kept {
+    fn started(&mut self, file: &[u8], second: &Record) -> Kept {
         let mut kept = Kept::of_bytes(&[0xa5; rbu::RECORD_SIZE]);
         same(self.seed, "a start", kept.area.restart_numbers(file), (0, 0));
         kept.tables = tables_of(&second.tables);
         kept.same_record(self.seed, "the record after a start", second);
+        self.bounds.accepted(file, &kept.area);
         kept
     }
 
@@ -141,6 +146,7 @@ impl Seen {
         };
         let mut kept = Kept::of_bytes(&[0xa5; rbu::RECORD_SIZE]);
         same(self.seed, "a refused start", kept.area.restart_numbers(file), answer);
+        self.bounds.refused(file, answer);
         kept.tables = rbu::Tables::BLANK;
         kept.same_record(self.seed, "the record after a refused start", &Record::BLANK);
         for call in &CALLS {
@@ -245,6 +251,7 @@ impl Seen {
         counted("kept: unsound by counts of trains off", self.unsound_by_counts, UNSOUND_BY_COUNTS);
         self.sent.print();
         counted("sent: sound records with bytes of the tables overwritten, written and loaded", self.damaged_tables, 1);
+        self.bounds.print();
     }
 }
 

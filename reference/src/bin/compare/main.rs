@@ -1,9 +1,11 @@
-//! The core against the second program: braking, Area A's listing, files, lists of calls, records, the file sent back out of them, and
-//! grants at merges; each call by the functions over bytes and on a record that is kept. Seeded and repeatable; it prints counts, and
-//! ends with status 1 at the first difference and at a count that is too low.
+//! The core against the second program: braking, Area A's listing, files, lists of calls, records, the file sent back out of them,
+//! grants at merges, and records and lists of a faster line; each call by the functions over bytes and on a record that is kept. Seeded
+//! and repeatable; it prints counts, and ends with status 1 at the first difference and at a count that is too low.
 //!
 //!     compare             the whole comparison
 //!     compare SEED        the same with another seed
+mod bounds;
+mod faster;
 mod files;
 mod grants;
 mod kept;
@@ -84,13 +86,21 @@ fn listing(seed: u64, seen: &mut kept::Seen) {
 
 /// S, and B: what is still run after this cycle is S of the speed that a cycle of full braking leaves.
 fn braking(seed: u64) {
+    let mut compared: u64 = 0;
     for b in 1..=TOP_SPEED {
         for v in 0..=TOP_SPEED {
-            same(seed, "S", u64::from(rbu::braking_distance(b, v)), s(b.into(), v.into()));
-            same(seed, "B", u64::from(rbu::braking_distance(b, v.saturating_sub(b))), b_rest(b.into(), v.into()));
+            same(seed, format_args!("S({v}) with b = {b}"), u64::from(rbu::braking_distance(b, v)), s(b.into(), v.into()));
+            let rest = rbu::braking_distance(b, v.saturating_sub(b));
+            same(seed, format_args!("B({v}) with b = {b}"), u64::from(rest), b_rest(b.into(), v.into()));
+            compared += 1;
         }
     }
     println!("braking: S and B compared for every speed to {TOP_SPEED} and every rate to {TOP_SPEED}");
+    counted("braking: S and B compared, speeds and rates", compared, 2000 * 2001);
+    // "b = 1 and v = 2000 gives 2,001,000"
+    let way = rbu::braking_distance(1, 2000);
+    same(seed, "S(2000) with b = 1", way, 2_001_000);
+    println!("braking: b 1, v 2000: {way}");
 }
 
 fn main() {
@@ -102,6 +112,7 @@ fn main() {
     lists::compare(seed, &mut kept);
     records::compare(seed, &mut kept);
     grants::compare(seed, &mut kept);
+    faster::compare(seed, &mut kept);
     kept.print();
     println!("compare: no difference");
 }

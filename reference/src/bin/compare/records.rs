@@ -51,6 +51,7 @@ pub fn compare(seed: u64, kept: &mut kept::Seen) {
         let area = random::area(&mut random, lively);
         let whole = area.file();
         let mut run = loaded(seed, &whole);
+        kept.start(&whole, &run.record());
         for _ in 0..random.within(0, 200) {
             let call = random::call(&mut random, &area, run.record().due);
             run.call(&call.call());
@@ -186,7 +187,7 @@ fn spoil(random: &mut Random, record: &mut Record) {
         0 => train.route = random.edgy(0, u64::from(ROUTES) + 1) as u8,
         1 => train.place = random.edgy(0, u64::from(ROUTE_SEGMENTS) + 1) as u8,
         2 => train.position = random.edgy(0, LONGEST.into()) as u32,
-        3 => train.position = train.position.saturating_add(random.within(1, 2000) as u32),
+        3 => train.position = train.position.saturating_add(random.within(1, 2 * u64::from(TOP_SPEED)) as u32),
         4 => train.speed = random.edgy(0, u64::from(TOP_SPEED) + 1) as u16,
         5 => train.asks ^= 1,
         6 => record.due = random.within(0, 4) as u8,
