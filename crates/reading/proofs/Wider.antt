@@ -1,7 +1,7 @@
 -- What wider bounds change of a verdict: what was accepted is accepted still, and what is newly accepted was refused with 4 or 6.
 use Prim.Native.Nat.{ℕ, _≤_}
 use mathlib.Core.Path.{_≡_}
-use mathlib.Core.Bool.{Bool, true, false, not, _&&_}
+use mathlib.Core.Bool.{true, false, not, _&&_}
 use mathlib.Core.Logic.{_⊎_, inl, inr}
 use mathlib.Core.List.{List}
 use native.Mathlib.Omega.{arith}
@@ -12,7 +12,6 @@ use Rattle.lists.specs.Words.{firstFailing}
 use Rattle.lists.specs.Tests.{conditionOf}
 use Rattle.lists.proofs.Cases.{by-test, not-both}
 use Rattle.file.specs.Blocks.{fileSize, firstDamaged, firstMisfiled}
-use Rattle.tables.specs.declared.Tables.{Tables}
 use Rattle.tables.specs.Bounds.{mostSegments, mostRoutes, Bounds}
 use Rattle.tables.specs.Rules.{headerOk, marginOk, jointOk, orderOk, dropOk, routeOk}
 use Rattle.tables.specs.Facts.{Within}
