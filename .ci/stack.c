@@ -189,7 +189,7 @@ static void call(uint16_t kind, uint16_t train, uint16_t on_route, uint16_t spee
     items[2] = on_route;
     items[3] = speed;
     items[6] = wishes;
-    for (int i = 7; i < RBU_CALL_ITEMS; i++) items[i] = 1000;
+    for (int i = 7; i < RBU_CALL_ITEMS; i++) items[i] = RBU_FASTEST;
 }
 
 // Every train tries to enter, cycles follow, and in each every train tries to leave; among them what must be refused.
@@ -198,7 +198,7 @@ static void write_script(void) {
     call(1, 0, 1, 0, 0);
     call(1, 1, 0, 0, 0);
     call(1, 1, 31, 0, 0);
-    call(1, 1, 1, 1001, 0);
+    call(1, 1, 1, RBU_FASTEST + 1, 0);
     for (uint16_t t = 1; t <= 25; t++) call(1, t, t, 0, 0);
     call(1, 1, 1, 0, 0);
     call(6, 0, 0, 0, 0);
@@ -219,6 +219,19 @@ static void note_answers(void) {
     for (size_t k = 0; k < ran; k++) {
         met[answers[k]] = true;
         if (answers[k] == 0) done[script[k * RBU_CALL_ITEMS]] = true;
+    }
+}
+
+// Of the files that are accepted: whether one has the header's greatest `gmax`, and one its greatest length, and whether one is beyond.
+static bool met_fastest, met_longest, beyond;
+
+static void note_bounds(void) {
+    const struct rbu_tables *tables = &kept.tables;
+    met_fastest |= tables->gmax == RBU_FASTEST;
+    beyond |= tables->gmax > RBU_FASTEST || tables->margin > RBU_LONGEST;
+    for (int s = 0; s < RBU_SEGMENTS; s++) {
+        met_longest |= tables->lengths[s] == RBU_LONGEST;
+        beyond |= tables->lengths[s] > RBU_LONGEST;
     }
 }
 
@@ -254,6 +267,7 @@ static void run_kept(size_t count_of_calls) {
 static void run_all(void) {
     measure(START);
     met_kept[number] = true;
+    if (number == RBU_ANSWER_DONE) note_bounds();
     run_kept(calls);
     // another step due, and none
     for (int due = 0; due <= 4; due++) {
@@ -318,6 +332,10 @@ int main(int count_of_names, char **names) {
     for (int i = 0; i < 3; i++) {
         if (met_write[of_writes[i]] && met_write_kept[of_writes[i]]) continue;
         printf("stack: no write is answered %d%s\n", of_writes[i], met_write[of_writes[i]] ? " on a kept record" : "");
+        failed = 1;
+    }
+    if (!met_fastest || !met_longest || beyond) {
+        printf("stack: the accepted files do not go up to RBU_FASTEST and RBU_LONGEST, and no further\n");
         failed = 1;
     }
     size_t most = 0;

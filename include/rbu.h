@@ -15,6 +15,8 @@
 //   library, memcpy and memset. It is for x86-64 and the System V calling convention. The header is for C11 and for C++11.
 // - Threads: a function touches what it is handed and nothing else. Two threads may run calls on two records at the same time; on one
 //   record, one call at a time.
+// - Time: a call tests the whole record, the braking distance of `gmax` and of trains near their segment's end among it, which are summed
+//   cycle by cycle: the smaller `b` is beside `gmax`, the longer a call and a start take. docs/ARCHITECTURE.md has times.
 // - Slices are two arguments, a pointer and how many entries it has. A length of 0 goes with any pointer, NULL too. Every other
 //   pointer is not NULL, is aligned for its type, and lends that many entries for the time of the call. What a pointer that is not
 //   const points at overlaps nothing else that the call is handed. (That an empty slice may be NULL is tried by the tests; the machine
@@ -93,10 +95,10 @@ struct rbu_train {
     uint8_t asks;
 };
 
-// The tables of the file: N, R, `gmax` (at most RBU_FASTEST), `b` and `d`. Of segment s: lengths[s - 1] (at most RBU_LONGEST, as `d`
-// is), limits[s - 1] and flags[s - 1] (1 entry, 2 exit, sum of both); its next links at next[2 * (s - 1)] and the place after, its previous links likewise, 0 for none. Of route r: how many
-// segments it has at routebytes[32 * (r - 1)], the one at place p at routebytes[32 * (r - 1) + p]. So a train that is on is on segment
-// routebytes[32 * (route - 1) + place].
+// The tables of the file: N, R, `gmax` (at most RBU_FASTEST), `b` and `d`. Of segment s: lengths[s - 1] (at most RBU_LONGEST),
+// limits[s - 1] and flags[s - 1] (1 entry, 2 exit, sum of both); its next links at next[2 * (s - 1)] and the place after, its previous
+// links likewise, 0 for none. Of route r: how many segments it has at routebytes[32 * (r - 1)], the one at place p at
+// routebytes[32 * (r - 1) + p]. So a train that is on is on segment routebytes[32 * (route - 1) + place].
 struct rbu_tables {
     uint8_t segments;
     uint8_t routes;

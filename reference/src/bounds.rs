@@ -1,5 +1,5 @@
 //! Areas at the bounds of `gmax`, `d` and lengths and one past them, and records with the greatest numbers, for the comparison. What load
-//! answers, and what a step makes of a record, is known from how they were made; neither is asked.
+//! answers, and what a step makes of a record, is known from how they were made; neither program is asked.
 
 use crate::area::{cycle, Call};
 use crate::file::decode_tables;

@@ -103,7 +103,7 @@ fn header_4() {
     {
         assert_eq!(changed(|a| (a.gmax, a.b, a.d) = (gmax, b, d)), (4, 0));
     }
-    // bounds far beyond
+    // far beyond the bounds
     assert_eq!(changed(|a| a.gmax = u16::MAX), (4, 0));
     assert_eq!(changed(|a| a.d = u32::MAX), (4, 0));
     // at the bounds, the later rules speak

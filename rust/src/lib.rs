@@ -38,8 +38,9 @@ pub const CALL_ITEMS: usize = 32;
 pub const SEGMENTS: usize = 62;
 pub const ROUTES: usize = 30;
 pub const TRAINS: usize = 24;
-/// At the most: `gmax`, in decimetres per cycle; `d` and the length of a segment, in decimetres.
+/// The greatest `gmax`, in decimetres per cycle.
 pub const FASTEST: u16 = 2000;
+/// The greatest `d` and the greatest length of a segment, in decimetres.
 pub const LONGEST: u32 = 4_000_000;
 
 // ---- answers

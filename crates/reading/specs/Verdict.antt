@@ -67,7 +67,7 @@ verdictWithin β file = firstOf (fileTests file (tableTests β file (decoded fil
 unfoldable pub verdict : List ℕ → Test
 verdict file = verdictWithin bounds file
 
--- the file meets every rule
+-- the file meets every rule, with the bounds β and with those in force
 abbrev pub acceptedWithin : Bounds → List ℕ → Bool
 acceptedWithin β file = not (verdictWithin β file .holds)
 

@@ -1,4 +1,4 @@
--- What load answers to Area A's file, whatever numbers and checks stand in the places that the edges change.
+-- What load answers to a file of Area A's shape, whatever numbers and checks stand in it.
 use Prim.Native.Nat.{ℕ}
 use mathlib.Core.Path.{_≡_, refl, ap, _∙_}
 use mathlib.Core.Bool.{Bool, true, not, and-true}
@@ -21,7 +21,7 @@ use Rattle.answers.specs.Answers.{answerOf}
 use Rattle.loading.specs.Before.{loadedWithin}
 use Rattle.rows.specs.AreaA.{header, segments, noSegments, routes, noRoutes, file}
 
--- the tables of Area A
+-- tables of Area A's shape
 unfoldable pub tablesOf : (gmax b d length1 limit1 length2 limit2 length3 limit3 : ℕ) → Tables
 tablesOf gmax b d length1 limit1 length2 limit2 length3 limit3 =
     record {
@@ -60,7 +60,7 @@ module _ (gmax b d first0 second0 length1 limit1 length2 limit2 length3 limit3 f
   unfolding bytes block
   blocks = (refl, refl, refl, refl, refl)
 
-  -- its tables are those of Area A; a number that an edge changes is read back from its bytes
+  -- its tables have Area A's shape; each number is read back from its bytes
   abbrev T : Tables
   T =
       tablesOf (twoAt (two gmax) 0) (twoAt (two b) 0) (fourAt (four d) 0) (fourAt (four length1) 0) (twoAt (two limit1) 0)

@@ -1,4 +1,5 @@
--- Area A of document 01: its file, block by block, and a record of it. Bytes and numbers are in decimal.
+-- Area A of document 01: its file, block by block, files of its shape with other numbers, and a record of it. Bytes and numbers are in
+-- decimal.
 use Prim.Native.Nat.{ℕ}
 use mathlib.Core.List.{List, [], _∷_, _++_}
 use lib.ListN.{replicate}

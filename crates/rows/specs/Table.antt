@@ -22,7 +22,7 @@ pub data Row : Type 0 where
   -- with this b, S(v) = way; and B(v) = way
   ValueS : (b v way : ℕ) → Row
   ValueB : (b v way : ℕ) → Row
-  -- load answers this file with this number and place; so did it with the smaller bounds
+  -- load answers this file with this number and place; and with the smaller bounds
   Load : (bytes : List ℕ) (number place : ℕ) → Row
   Before : (bytes : List ℕ) (number place : ℕ) → Row
   -- after the call position on this record, the train has this place and position
@@ -95,9 +95,9 @@ table =
     (Before (file headerA (segments 6000 300 1000000 290 8000 290 251 222)) 0 0)
     (Before (file headerA (segments 6000 300 1000001 290 8000 290 252 206)) 6 2)
     ∷ Both (Before (file (header 1 1 1000000 154 16) segments1) 6 1) (Before (file (header 1 1 1000001 155 8) segments1) 4 0)
-    -- the rest of rule 4 in these numbers: `b` above `gmax` is 4, `d` 0 is 4
+    -- two more of rule 4: `b` above `gmax` is 4, `d` 0 is 4
     ∷ Both (Load (file (header 300 301 4650 158 71) segmentsA) 4 0) (Load (file (header 300 10 0 62 21) segmentsA) 4 0)
-    -- 4 comes before 5, and 5 before 6, where all three are due
+    -- 4 comes first where 4, 5 and 6 are due, and 5 where 5 and 6 are
     ∷ Both
     (Load (file (header 2001 1 2000999 238 97) (segments 4000001 2000 4000001 2000 4000001 2000 109 78)) 4 0)
     (Load (file (header 2000 1 2000999 237 101) (segments 4000001 2000 4000001 2000 4000001 2000 109 78)) 5 0)

@@ -11,10 +11,10 @@ use Rattle.lists.specs.Words.{at}
 use Rattle.lists.proofs.Cases.{cases, by-test, either, and-iff, facts}
 use Rattle.lists.proofs.Loops.{every-at, every-all}
 use Rattle.tables.specs.declared.Tables.{Tables}
-use Rattle.tables.specs.Bounds.{mostSegments, mostRoutes, longestRoute, Bounds, bounds}
+use Rattle.tables.specs.Bounds.{mostSegments, mostRoutes, longestRoute, Bounds, bounds, smallerBounds}
 use Rattle.tables.specs.Tables.{firstLink, secondLink, linksTo, segmentOf, countOf, segmentAt}
 use Rattle.tables.specs.Rules.{headerIn, headerOk, linksOk, usedOk, rowOk, segmentOk, matched, jointIn, orderIn, gentle, dropIn, numberIn, stepIn, usedRouteOk, routeIn, jointOk, orderOk, dropOk, routeOk, meets}
-use Rattle.tables.specs.Facts.{MeetsWithin, Meets, IsSegment, HeaderWithin, Within, Consistent}
+use Rattle.tables.specs.Facts.{MeetsWithin, Meets, IsSegment, HeaderWithin, Within, AtMost, Consistent}
 
 -- what holds of each link of a segment that is not 0 holds of every number that it links to
 module _ (links : List ℕ) (p : ℕ → Bool) (s : ℕ) (first : (eqb (firstLink links s) 0 || p (firstLink links s)) ≡ true) (second : (eqb (secondLink links s) 0 || p (secondLink links s)) ≡ true) where
@@ -169,7 +169,7 @@ module _ {β β′ : Bounds} {T : Tables} (m : MeetsWithin β T) (w : Within β�
       (λ u. rw u (used-enough s (record { from = from; to = leb-true s (T .segments) u })))
       (λ u. let h = m .segment s from to in rw u (rw u at h))
 
-  -- THE CLAIM: and of rules 4 to 10 the bounds decide nothing else: the same tables meet the rules with all other bounds that they are within
+  -- THE CLAIM: of rules 4 to 10 the bounds decide only this: tables that meet the rules with some bounds meet them with all that they are within
   pub within-enough : MeetsWithin β′ T
   within-enough =
       record {
@@ -182,11 +182,16 @@ module _ {β β′ : Bounds} {T : Tables} (m : MeetsWithin β T) (w : Within β�
         route = m .route;
       }
 
--- THE CLAIM: the bounds in force, in document 02's numbers
-pub bounded : (T : Tables) → Meets T → (T .gmax ≤ 2000) × (T .margin ≤ 4000000) × ((s : ℕ) → IsSegment T s → at (T .lengths) s ≤ 4000000)
-bounded T m =
-    let w = within-asked m in
-    (omega (arith, w .gmax), omega (arith, w .margin), λ s i. omega (arith, w .lengths s i))
+within-iff : (β : Bounds) (T : Tables) → Within β T ↔ AtMost (β .fastest) (β .longest) T
+within-iff β T = (λ w. (w .gmax, w .margin, w .lengths), λ n. record { gmax = n .0; margin = n .1; lengths = n .2 })
+
+-- THE CLAIM: to be within the bounds in force is to be within document 02's numbers
+pub in-force : (T : Tables) → Within bounds T ↔ AtMost 2000 4000000 T
+in-force = within-iff bounds
+
+-- THE CLAIM: to be within the smaller bounds is to be within document 01's numbers
+pub until-now : (T : Tables) → Within smallerBounds T ↔ AtMost 1000 1000000 T
+until-now = within-iff smallerBounds
 
 -- THE CLAIM: the test of tables decides whether they meet rules 4 to 10
 pub meets-iff : (T : Tables) → (meets T ≡ true) ↔ Meets T

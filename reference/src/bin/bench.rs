@@ -1,7 +1,7 @@
 //! The core and the second program on the same inputs, in one process: microseconds each and the ratio core / second program. Then the
 //! core alone: a call on a record that is kept, and the same call inside a run. It ends with status 1 where a load, a write or a call of
 //! the core takes longer than the second program's, or a call on a kept record too much longer than inside a run. The rows of a faster
-//! line stand apart and end nothing: there the core sums up to 2000 terms of S one by one, where the second program has its closed form.
+//! line stand apart and do not decide the status: there the core sums up to 2000 terms of S one by one, where the second program has its closed form.
 //! Both programs test the whole record at every call and at every write. In the replays and the writes the buffers, for answers and state
 //! or for the file, are not cleared between runs; for a single call the state, or the kept record, is copied anew before each run, with
 //! and without the call.
@@ -175,7 +175,7 @@ fn at_top_speed(file: &[u8], due: u8) -> Area {
     Area::from_record(&record).expect("the record is sound")
 }
 
-/// The calls on that area, each with both trains there, and their mean.
+/// The calls on that area and their mean: each step with both trains there, leave and enter with train 1 there alone.
 fn faster_calls(name: &str, description: &Description) -> Vec<Times> {
     let file = description.file();
     let mut times = vec![];
@@ -189,7 +189,7 @@ fn faster_calls(name: &str, description: &Description) -> Vec<Times> {
 
 /// The area of a faster line, with as many terms of S as there can be and with one.
 fn faster_line() {
-    println!("a faster line; with b 1 the core sums {TOP_SPEED} terms of S, with b {TOP_SPEED} one; these rows end nothing");
+    println!("a faster line; with b 1 the core sums {TOP_SPEED} terms of S, with b {TOP_SPEED} one; these rows do not decide the status");
     println!("{:40} {:>9} {:>9} {:>8}", "microseconds", "core", "second", "ratio");
     let mut times = vec![];
     for b in [1, TOP_SPEED] {

@@ -198,7 +198,7 @@ impl Seen<'_> {
             counted(format_args!("files: accepted, {name}"), count, EACH_EXTREME);
         }
         for (bound, count) in AT_BOUNDS.iter().zip(self.bounds) {
-            counted(format_args!("files: {}, answer {}", bound.name, bound.answers[0]), count, EACH_BOUND);
+            println!("files: {}, answer {}: {count}", bound.name, bound.answers[0]);
         }
         for (one, hits) in BREAKS.iter().zip(&self.breaks) {
             println!("files: rule {}, {}: first {}, middle {}, last {}", one.rule, one.name, hits[0], hits[1], hits[2]);

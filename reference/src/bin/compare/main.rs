@@ -95,8 +95,7 @@ fn braking(seed: u64) {
             compared += 1;
         }
     }
-    println!("braking: S and B compared for every speed to {TOP_SPEED} and every rate to {TOP_SPEED}");
-    counted("braking: S and B compared, speeds and rates", compared, 2000 * 2001);
+    counted("braking: S and B compared, for each speed from 0 and each rate from 1", compared, 2001 * 2000);
     // "b = 1 and v = 2000 gives 2,001,000"
     let way = rbu::braking_distance(1, 2000);
     same(seed, "S(2000) with b = 1", way, 2_001_000);
