@@ -3,7 +3,9 @@ use Prim.Native.Nat.{ℕ}
 use mathlib.Core.Path.{_≡_, refl, ap, _∙_}
 use mathlib.Core.Bool.{true, false}
 use mathlib.Core.List.{List, [], _∷_}
+use lib.Dec.{ltb}
 use Rattle.lists.specs.Words.{nth, at, each, every}
+use Rattle.file.specs.Bytes.{two, twoAt}
 use Rattle.braking.specs.Braking.{fallingSum, S, B}
 use Rattle.tables.specs.Bounds.{bounds, smallerBounds}
 use Rattle.tables.specs.Tables.{countOf, segmentAt}
@@ -18,7 +20,6 @@ use Rattle.answers.specs.Answers.{answerOf, numberOf}
 use Rattle.loading.specs.Load.{fresh, loaded}
 use Rattle.loading.specs.Before.{loadedWithin}
 use Rattle.area.specs.declared.Area.{Area}
-use Rattle.area.specs.declared.Outcome.{Outcome}
 use Rattle.area.specs.Sound.{sound}
 use Rattle.area.specs.Calls.{afterEnter, enterCall, afterPosition, positionCall}
 use Rattle.reading.specs.Verdict.{verdict}
@@ -26,7 +27,7 @@ use Rattle.reading.proofs.Accepted.{accepted-iff}
 use Rattle.loading.proofs.Loading.{done-iff}
 use Rattle.loading.proofs.Fresh.{fresh-sound}
 use Rattle.separation.specs.Calls.{Enter, called}
-use Rattle.separation.specs.Runs.{noted, worldBy, next, afterFrom, begin, after}
+use Rattle.separation.specs.Runs.{World, noted, worldBy, next, afterFrom, begin, after}
 use Rattle.separation.proofs.Demand3.{from-fresh}
 use Rattle.rows.specs.AreaA.{header, segments, file, headerA, segmentsA, headerFast, segmentsFast, segmentsSlow, segments1000, segments1, moving}
 use Rattle.rows.specs.Table.{holds, allHold, table}
@@ -152,59 +153,37 @@ moved-on : trainAt (positionCall moving .area .trains) 1 ≡ record { route = 1;
 unfolding positionCall afterPosition moving each nth
 moved-on = rw (is-sound, tables) (unfold tablesOf ownIn segmentAt movesIn movedIn in refl)
 
--- train 1 enters the area that load makes of a file that passes
-module _ (bytes : List ℕ) (done : numberOf (loaded bytes .answer) ≡ 0) (v : ℕ) where
-  abbrev loadedArea : Area
-  loadedArea = fresh (decoded bytes)
+-- train 1 enters the area that load makes of a file of Area A's shape, at a speed that segment 1 allows
+module _ (gmax b d first0 second0 length1 limit1 length2 limit2 length3 limit3 first1 second1 v : ℕ) where
+  abbrev bytes : List ℕ
+  bytes = file (header gmax b d first0 second0) (segments length1 limit1 length2 limit2 length3 limit3 first1 second1)
 
-  abbrev enters : Outcome
-  enters = record { answer = Done; area = afterEnter loadedArea 1 1 v }
+  abbrev area : Area
+  area = fresh (decoded bytes)
 
-  is-loaded-sound : sound loadedArea ≡ true
-  is-loaded-sound = fresh-sound bytes (accepted-iff bytes .1 (done-iff bytes .0 done))
+  abbrev entering : World
+  entering = worldBy (begin area) (Enter 1 1 v) (record { answer = Done; area = afterEnter area 1 1 v })
 
   one-call : (a : Area) → afterFrom (begin a) (Enter 1 1 v ∷ []) ≡ worldBy (begin a) (Enter 1 1 v) (enterCall a 1 1 v)
   unfolding afterFrom next called begin
   one-call a = refl
 
-  run-of : enterCall loadedArea 1 1 v ≡ enters → after bytes (Enter 1 1 v ∷ []) ≡ worldBy (begin loadedArea) (Enter 1 1 v) enters
-  run-of entered =
-      from-fresh bytes done (Enter 1 1 v ∷ [])
-      ∙ (one-call loadedArea ∙ ap (worldBy (begin loadedArea) (Enter 1 1 v)) entered)
+  entered :
+      sound area ≡ true → ltb (twoAt (two limit1) 0) v ≡ false
+      → enterCall area 1 1 v ≡ record { answer = Done; area = afterEnter area 1 1 v }
+  unfolding enterCall answerOf
+  entered ok slow = rw ok (unfold fresh in rw tables (unfold tablesOf segmentAt nth in rw slow))
 
-abbrev A : List ℕ
-A = file headerA segmentsA
+  run : loaded bytes .answer ≡ Done → ltb (twoAt (two limit1) 0) v ≡ false → after bytes (Enter 1 1 v ∷ []) ≡ entering
+  run done slow =
+      let zero = ap numberOf done in
+      from-fresh bytes zero (Enter 1 1 v ∷ [])
+      ∙ (one-call area
+      ∙ ap (worldBy (begin area) (Enter 1 1 v)) (entered (fresh-sound bytes (accepted-iff bytes .1 (done-iff bytes .0 zero))) slow))
 
-loaded-A : numberOf (loaded A .answer) ≡ 0
-loaded-A = ap numberOf area-A
-
-entered-A : enterCall (fresh (decoded A)) 1 1 250 ≡ enters A loaded-A 250
-unfolding enterCall answerOf
-entered-A = rw (is-loaded-sound A loaded-A 250) (unfold fresh in rw tables (unfold tablesOf segmentAt nth in refl))
-
-run-A : after A (Enter 1 1 250 ∷ []) ≡ worldBy (begin (fresh (decoded A))) (Enter 1 1 250) (enters A loaded-A 250)
-run-A = run-of A loaded-A 250 entered-A
-
-first-A : at (afterEnter (fresh (decoded A)) 1 1 250 .allocations) 1 ≡ 1
-unfolding afterEnter fresh each nth
-first-A = rw tables (unfold tablesOf segmentAt in refl)
-
-abbrev Fast : List ℕ
-Fast = file headerFast segmentsFast
-
-loaded-fast : numberOf (loaded Fast .answer) ≡ 0
-loaded-fast = ap numberOf margin-2001000
-
-entered-fast : enterCall (fresh (decoded Fast)) 1 1 2000 ≡ enters Fast loaded-fast 2000
-unfolding enterCall answerOf
-entered-fast = rw (is-loaded-sound Fast loaded-fast 2000) (unfold fresh in rw tables (unfold tablesOf segmentAt nth in refl))
-
-run-fast : after Fast (Enter 1 1 2000 ∷ []) ≡ worldBy (begin (fresh (decoded Fast))) (Enter 1 1 2000) (enters Fast loaded-fast 2000)
-run-fast = run-of Fast loaded-fast 2000 entered-fast
-
-first-fast : at (afterEnter (fresh (decoded Fast)) 1 1 2000 .allocations) 1 ≡ 1
-unfolding afterEnter fresh each nth
-first-fast = rw tables (unfold tablesOf segmentAt in refl)
+  first-allocated : at (afterEnter area 1 1 v .allocations) 1 ≡ 1
+  unfolding afterEnter fresh each nth
+  first-allocated = rw tables (unfold tablesOf segmentAt in refl)
 
 -- THE CLAIM: the values of S and B, the edges of document 01 and those of R-3 hold, as rows of one table; so do the runs with a train on them
 pub rows-hold : allHold table ≡ true
@@ -237,9 +216,9 @@ rows-hold =
       all-due,
       two-due,
       area-A,
-      run-A,
-      first-A,
-      run-fast,
-      first-fast,
+      run 300 10 4650 122 33 6000 300 5500 290 8000 290 251 42 250 area-A refl,
+      run 2000 1 2001000 238 93 4000000 2000 4000000 2000 4000000 2000 106 126 2000 margin-2001000 refl,
+      first-allocated,
+      first-allocated,
     )
     (unfold S B fallingSum noted begin in refl)

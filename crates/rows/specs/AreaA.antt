@@ -50,7 +50,6 @@ abbrev pub segmentsFast : List ℕ
 segmentsFast = segments 4000000 2000 4000000 2000 4000000 2000 106 126
 
 -- block 1 with other lengths and limits, alike for all three: 4,000,000 and 1; 1,000,000 and 1000; 1,000,000 and 1
-
 abbrev pub segmentsSlow : List ℕ
 segmentsSlow = segments 4000000 1 4000000 1 4000000 1 229 237
 

@@ -14,7 +14,7 @@ use Rattle.tables.specs.declared.Tables.{Tables}
 use Rattle.tables.specs.Bounds.{mostSegments, mostRoutes, longestRoute, Bounds, bounds, smallerBounds}
 use Rattle.tables.specs.Tables.{firstLink, secondLink, linksTo, segmentOf, countOf, segmentAt}
 use Rattle.tables.specs.Rules.{headerIn, headerOk, linksOk, usedOk, rowOk, segmentOk, matched, jointIn, orderIn, gentle, dropIn, numberIn, stepIn, usedRouteOk, routeIn, jointOk, orderOk, dropOk, routeOk, meets}
-use Rattle.tables.specs.Facts.{MeetsWithin, Meets, IsSegment, HeaderWithin, Within, AtMost, Consistent}
+use Rattle.tables.specs.Facts.{MeetsWithin, Meets, IsSegment, HeaderWithin, Within, Consistent}
 
 -- what holds of each link of a segment that is not 0 holds of every number that it links to
 module _ (links : List ℕ) (p : ℕ → Bool) (s : ℕ) (first : (eqb (firstLink links s) 0 || p (firstLink links s)) ≡ true) (second : (eqb (secondLink links s) 0 || p (secondLink links s)) ≡ true) where
@@ -182,16 +182,15 @@ module _ {β β′ : Bounds} {T : Tables} (m : MeetsWithin β T) (w : Within β�
         route = m .route;
       }
 
-within-iff : (β : Bounds) (T : Tables) → Within β T ↔ AtMost (β .fastest) (β .longest) T
-within-iff β T = (λ w. (w .gmax, w .margin, w .lengths), λ n. record { gmax = n .0; margin = n .1; lengths = n .2 })
+-- the two values of the bounds in the papers' numbers, of tables that meet the rules with any bounds
+module _ {β : Bounds} {T : Tables} (m : MeetsWithin β T) where
+  -- THE CLAIM: the tables that meet the rules in force are those within document 02's numbers
+  pub in-force : Meets T ↔ Within (record { fastest = 2000; longest = 4000000 }) T
+  in-force = (λ n. within-asked n, λ w. within-enough m w)
 
--- THE CLAIM: to be within the bounds in force is to be within document 02's numbers
-pub in-force : (T : Tables) → Within bounds T ↔ AtMost 2000 4000000 T
-in-force = within-iff bounds
-
--- THE CLAIM: to be within the smaller bounds is to be within document 01's numbers
-pub until-now : (T : Tables) → Within smallerBounds T ↔ AtMost 1000 1000000 T
-until-now = within-iff smallerBounds
+  -- THE CLAIM: those that met them until now are the ones within document 01's
+  pub until-now : MeetsWithin smallerBounds T ↔ Within (record { fastest = 1000; longest = 1000000 }) T
+  until-now = (λ n. within-asked n, λ w. within-enough m w)
 
 -- THE CLAIM: the test of tables decides whether they meet rules 4 to 10
 pub meets-iff : (T : Tables) → (meets T ≡ true) ↔ Meets T

@@ -45,10 +45,6 @@ pub record Within (β : Bounds) (T : Tables) : Type 0 where
   pub margin : T .margin ≤ β .longest
   pub lengths : (s : ℕ) → IsSegment T s → at (T .lengths) s ≤ β .longest
 
--- the same in numbers
-abbrev pub AtMost : (gmax length : ℕ) → Tables → Type 0
-AtMost gmax length T = (T .gmax ≤ gmax) × (T .margin ≤ length) × ((s : ℕ) → IsSegment T s → at (T .lengths) s ≤ length)
-
 -- the facts of tables that meet the rules
 pub record Consistent (T : Tables) : Type 0 where
   pub segments : (1 ≤ T .segments) × (T .segments ≤ mostSegments)
