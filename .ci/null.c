@@ -12,8 +12,8 @@
 enum { CALLS = 2, ITEMS = CALLS * RBU_CALL_ITEMS };
 
 static uint8_t file[RBU_FILE_SIZE];
-// enter of train 1 on route 1 at 250, and a request, which is not due
-static const uint16_t script[ITEMS] = {[0] = 1, [1] = 1, [2] = 1, [3] = 250, [RBU_CALL_ITEMS] = 4};
+// enter of train 1 on route 1 at 250, a decimetre long, and a request, which is not due
+static const uint16_t script[ITEMS] = {[0] = 1, [1] = 1, [2] = 1, [3] = 250, [4] = 1, [RBU_CALL_ITEMS] = 4};
 static const uint16_t wishes[RBU_TRAINS] = {300};
 
 // What an empty slice that is not NULL points at; no byte of it may change.
@@ -131,6 +131,7 @@ static bool same_area(const struct rbu_area *a, const struct rbu_area *b) {
         const struct rbu_train *one = &a->trains[t], *other = &b->trains[t];
         if (one->route != other->route || one->place != other->place || one->position != other->position) return false;
         if (one->speed != other->speed || one->asks != other->asks || one->count != other->count) return false;
+        if (one->length != other->length) return false;
     }
     return SAME(tables.segments) && SAME(tables.routes) && SAME(tables.gmax) && SAME(tables.braking) && SAME(tables.margin) &&
            SAME(tables.lengths) && SAME(tables.limits) && SAME(tables.next) && SAME(tables.previous) && SAME(tables.flags) &&

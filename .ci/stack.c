@@ -13,7 +13,7 @@
 
 #include "rbu.h"
 
-enum { STACK = 256 * 1024, CYCLES = 300, MOST_CALLS = 64 + CYCLES * 32, ANSWERS = 23, KINDS = 7 };
+enum { STACK = 256 * 1024, CYCLES = 300, MOST_CALLS = 64 + CYCLES * 32, ANSWERS = 24, KINDS = 7 };
 
 // ---- what the functions are handed, and what they give
 
@@ -41,7 +41,7 @@ static void nothing(void) {}
 static void start_area(void) { number = rbu_start(&kept, file, file_length, &place); }
 static void enter(void) {
     kept = before;
-    number = rbu_enter(&kept, items[1], items[2], items[3]);
+    number = rbu_enter(&kept, items[1], items[2], items[3], items[4]);
 }
 static void leave(void) {
     kept = before;
@@ -181,13 +181,14 @@ static size_t figure_for(size_t measured) { return (measured * 5 / 4 + 1023) / 1
 
 // ---- the lists
 
-static void call(uint16_t kind, uint16_t train, uint16_t on_route, uint16_t speed, uint16_t wishes) {
+static void call(uint16_t kind, uint16_t train, uint16_t on_route, uint16_t speed, uint16_t length, uint16_t wishes) {
     uint16_t *items = script + calls++ * RBU_CALL_ITEMS;
     memset(items, 0, RBU_CALL_ITEMS * sizeof *items);
     items[0] = kind;
     items[1] = train;
     items[2] = on_route;
     items[3] = speed;
+    items[4] = length;
     items[6] = wishes;
     for (int i = 7; i < RBU_CALL_ITEMS; i++) items[i] = RBU_FASTEST;
 }
@@ -195,18 +196,21 @@ static void call(uint16_t kind, uint16_t train, uint16_t on_route, uint16_t spee
 // Every train tries to enter, cycles follow, and in each every train tries to leave; among them what must be refused.
 static void write_script(void) {
     calls = 0;
-    call(1, 0, 1, 0, 0);
-    call(1, 1, 0, 0, 0);
-    call(1, 1, 31, 0, 0);
-    call(1, 1, 1, RBU_FASTEST + 1, 0);
-    for (uint16_t t = 1; t <= 25; t++) call(1, t, t, 0, 0);
-    call(1, 1, 1, 0, 0);
-    call(6, 0, 0, 0, 0);
-    call(3, 0, 0, 0, 25);
+    call(1, 0, 1, 0, 1, 0);
+    call(1, 1, 0, 0, 1, 0);
+    call(1, 1, 31, 0, 1, 0);
+    call(1, 1, 1, 0, 0, 0);
+    call(1, 1, 1, 0, RBU_LONGEST_TRAIN + 1, 0);
+    call(1, 1, 1, RBU_FASTEST + 1, 1, 0);
+    // the longest first: its rear lies furthest back
+    for (uint16_t t = 1; t <= 25; t++) call(1, t, t, 0, (uint16_t)(RBU_LONGEST_TRAIN / t), 0);
+    call(1, 1, 1, 0, 1, 0);
+    call(6, 0, 0, 0, 0, 0);
+    call(3, 0, 0, 0, 0, 25);
     for (int cycle = 0; cycle < CYCLES; cycle++) {
-        call(3, 0, 0, 0, 24);
-        for (uint16_t kind = 4; kind <= 6; kind++) call(kind, 0, 0, 0, 0);
-        for (uint16_t t = 1; t <= 25; t++) call(2, t, 0, 0, 0);
+        call(3, 0, 0, 0, 0, 24);
+        for (uint16_t kind = 4; kind <= 6; kind++) call(kind, 0, 0, 0, 0, 0);
+        for (uint16_t t = 1; t <= 25; t++) call(2, t, 0, 0, 0, 0);
     }
 }
 
@@ -224,6 +228,8 @@ static void note_answers(void) {
 
 // Of the files that are accepted: whether one has the header's greatest `gmax`, and one its greatest length, and whether one is beyond.
 static bool met_fastest, met_longest, beyond;
+// Of the trains that enter: whether one has the header's greatest length, and whether one is longer.
+static bool met_longest_train, longer_train;
 
 static void note_bounds(void) {
     const struct rbu_tables *tables = &kept.tables;
@@ -256,6 +262,10 @@ static void run_kept(size_t count_of_calls) {
         functions[items[0]].function();
         met_kept[number] = true;
         if (number == 0) done_kept[items[0]] = true;
+        for (int t = 0; t < RBU_TRAINS; t++) {
+            met_longest_train |= kept.trains[t].length == RBU_LONGEST_TRAIN;
+            longer_train |= kept.trains[t].length > RBU_LONGEST_TRAIN;
+        }
         if (++seen[items[0]][number] > 2) continue;
         measure(items[0]);
         measure(REPORT);
@@ -336,6 +346,10 @@ int main(int count_of_names, char **names) {
     }
     if (!met_fastest || !met_longest || beyond) {
         printf("stack: the accepted files do not go up to RBU_FASTEST and RBU_LONGEST, and no further\n");
+        failed = 1;
+    }
+    if (!met_longest_train || longer_train) {
+        printf("stack: the trains that enter do not go up to RBU_LONGEST_TRAIN, and no further\n");
         failed = 1;
     }
     size_t most = 0;

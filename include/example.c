@@ -42,6 +42,7 @@ static const char *word(enum rbu_answer answer) {
     case RBU_ANSWER_NO_EXIT: return "no exit";
     case RBU_ANSWER_WISHES: return "wishes";
     case RBU_ANSWER_BUFFER: return "buffer";
+    case RBU_ANSWER_LENGTH: return "length";
     }
     return "no such answer";
 }
@@ -49,7 +50,7 @@ static const char *word(enum rbu_answer answer) {
 // ---- a call as it comes in: its kind, and the items of its record that it uses
 
 enum { ENTER = 1, LEAVE = 2, SPEED = 3, REQUEST = 4, GRANT = 5, POSITION = 6 };
-enum { KIND = 0, OF_TRAIN = 1, ON_ROUTE = 2, AT_SPEED = 3, WISHES = 6, FIRST_WISH = 7 };
+enum { KIND = 0, OF_TRAIN = 1, ON_ROUTE = 2, AT_SPEED = 3, OF_LENGTH = 4, WISHES = 6, FIRST_WISH = 7 };
 
 enum next { A_CALL, NO_CALL, CUT_SHORT };
 
@@ -72,7 +73,7 @@ static size_t wishes_of(const uint16_t *items) {
 
 static uint8_t run(const uint16_t *items) {
     switch (items[KIND]) {
-    case ENTER: return rbu_enter(&area, items[OF_TRAIN], items[ON_ROUTE], items[AT_SPEED]);
+    case ENTER: return rbu_enter(&area, items[OF_TRAIN], items[ON_ROUTE], items[AT_SPEED], items[OF_LENGTH]);
     case LEAVE: return rbu_leave(&area, items[OF_TRAIN]);
     case SPEED: return rbu_speed(&area, items + FIRST_WISH, wishes_of(items));
     case REQUEST: return rbu_request(&area);
@@ -84,7 +85,9 @@ static uint8_t run(const uint16_t *items) {
 static void name_refusal(unsigned long call, const uint16_t *items, uint8_t number) {
     fprintf(stderr, "call %lu: ", call);
     switch (items[KIND]) {
-    case ENTER: fprintf(stderr, "enter %u %u %u", items[OF_TRAIN], items[ON_ROUTE], items[AT_SPEED]); break;
+    case ENTER:
+        fprintf(stderr, "enter %u %u %u %u", items[OF_TRAIN], items[ON_ROUTE], items[AT_SPEED], items[OF_LENGTH]);
+        break;
     case LEAVE: fprintf(stderr, "leave %u", items[OF_TRAIN]); break;
     case SPEED: fprintf(stderr, "speed with %u wishes", (unsigned)wishes_of(items)); break;
     case REQUEST: fprintf(stderr, "request"); break;
@@ -101,8 +104,8 @@ static void print_state(void) {
     for (int t = 1; t <= RBU_TRAINS; t++) {
         const struct rbu_train *train = &area.trains[t - 1];
         if (train->route == 0) continue;
-        printf("train %d route %u place %u position %lu speed %u asks %u count %u\n", t, train->route, train->place,
-               (unsigned long)train->position, train->speed, train->asks, train->count);
+        printf("train %d route %u place %u position %lu speed %u asks %u count %u length %u\n", t, train->route, train->place,
+               (unsigned long)train->position, train->speed, train->asks, train->count, train->length);
     }
     for (int s = 1; s <= RBU_SEGMENTS; s++) {
         if (area.allocations[s - 1] != 0) printf("allocation %d %u\n", s, area.allocations[s - 1]);

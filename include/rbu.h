@@ -8,9 +8,9 @@
 //
 // - Sound means: the tables meet load's rules 4 to 10; the step due is one of four; a train off is all zero; a train on stands at a
 //   place of a route, before its segment's end, at most at the limit there, and can brake to a stand before the end of what is
-//   allocated to it; its own segment is allocated to it, its next may be, no other is; and it asks exactly when grant is due, it is
-//   near its segment's end and its next is not allocated to it. A record that was started and handed on is sound; on one that is
-//   not, every call answers RBU_ANSWER_UNSOUND and changes nothing.
+//   allocated to it; its length is 1 to 20,000; every segment under it is allocated to it, its next may be, no other is; and it asks
+//   exactly when grant is due, it is near its segment's end and its next is not allocated to it. A record that was started and handed
+//   on is sound; on one that is not, every call answers RBU_ANSWER_UNSOUND and changes nothing.
 // - Memory: nothing is allocated, nothing is kept after a call, and there are no globals. The archive needs two functions of the C
 //   library, memcpy and memset. It is for x86-64 and the System V calling convention. The header is for C11 and for C++11.
 // - Threads: a function touches what it is handed and nothing else. Two threads may run calls on two records at the same time; on one
@@ -46,7 +46,10 @@ extern "C" {
 #define RBU_FASTEST 2000
 #define RBU_LONGEST 4000000
 
-// The answers: done, what load finds of a file (1 to 10), the refusals of calls (11 to 21) and of a write (11 and 22).
+// A train's length, in decimetres, at the most.
+#define RBU_LONGEST_TRAIN 20000
+
+// The answers: done, what load finds of a file (1 to 10), the refusals of calls (11 to 21) and of a write (11 and 22), and 23, which is a refusal of enter.
 enum rbu_answer {
     RBU_ANSWER_DONE = 0,
     RBU_ANSWER_SIZE = 1,
@@ -70,7 +73,8 @@ enum rbu_answer {
     RBU_ANSWER_TOO_FAST = 19,
     RBU_ANSWER_NO_EXIT = 20,
     RBU_ANSWER_WISHES = 21,
-    RBU_ANSWER_BUFFER = 22
+    RBU_ANSWER_BUFFER = 22,
+    RBU_ANSWER_LENGTH = 23
 };
 
 // The steps of a cycle, in their order.
@@ -78,27 +82,30 @@ enum rbu_due { RBU_DUE_SPEED = 0, RBU_DUE_REQUEST = 1, RBU_DUE_GRANT = 2, RBU_DU
 
 // ---- a running unit: one record, one call at a time
 
-// The record. The caller keeps it: 2,012 bytes, aligned to 4. Its fields are there to be read; only the functions below write it.
+// The record. The caller keeps it: 2,108 bytes, aligned to 4. Its fields are there to be read; only the functions below write it.
 // Any bytes at all are a record: one that was damaged is answered RBU_ANSWER_UNSOUND, or it is sound and its calls are those of
 // documents 01 and 02, but that it is the record of the run is then no longer said. Padding is never looked at, and may hold anything
 // after a call: compare two records by their fields.
 
-// A train: route and place in it, counted from 1; route 0 is a train off, which is all zero. Position in its segment in decimetres,
-// speed in decimetres per cycle; asks is 1 between request and grant where it asks for its next segment, and 0 otherwise. count is at
-// how many grant steps it has asked and got nothing since it entered or was last granted a segment, 65,535 at the most.
+// A train: route and place in it, counted from 1; route 0 is a train off, which is all zero. Place and position are its front's:
+// position in its segment in decimetres. Speed in decimetres per cycle. Its rear lies `length` decimetres behind its front along the
+// route; under it is each segment from its front's back to its rear's, but one that ends where the rear is, and what lies before the
+// route's first segment is outside the area. asks is 1 between request and grant where it asks for its next segment, and 0 otherwise.
+// count is at how many grant steps it has asked and got nothing since it entered or was last granted a segment, 65,535 at the most.
 struct rbu_train {
     uint8_t route;
     uint8_t place;
     uint16_t count;
     uint32_t position;
     uint16_t speed;
+    uint16_t length;
     uint8_t asks;
 };
 
 // The tables of the file: N, R, `gmax` (at most RBU_FASTEST), `b` and `d`. Of segment s: lengths[s - 1] (at most RBU_LONGEST),
 // limits[s - 1] and flags[s - 1] (1 entry, 2 exit, sum of both); its next links at next[2 * (s - 1)] and the place after, its previous
 // links likewise, 0 for none. Of route r: how many segments it has at routebytes[32 * (r - 1)], the one at place p at
-// routebytes[32 * (r - 1) + p]. So a train that is on is on segment routebytes[32 * (route - 1) + place].
+// routebytes[32 * (r - 1) + p]. So the front of a train that is on is on segment routebytes[32 * (route - 1) + place].
 struct rbu_tables {
     uint8_t segments;
     uint8_t routes;
@@ -122,7 +129,7 @@ struct rbu_area {
     uint8_t due;
 };
 
-#define RBU_AREA_SIZE 2012
+#define RBU_AREA_SIZE 2108
 #define RBU_AREA_ALIGNMENT 4
 
 #ifdef __cplusplus
@@ -138,8 +145,10 @@ uint8_t rbu_start(struct rbu_area *area, const uint8_t *file, size_t file_length
 
 // The six calls. Each returns the number of its answer; a refused one leaves the record as it was. Arguments are tested whole: train
 // 257 is refused. wishes[t - 1] is train t's, those of trains off are ignored; a count other than RBU_TRAINS is RBU_ANSWER_WISHES.
-// rbu_grant: of the trains that ask for a free segment the one whose `count` is highest gets it, of equal counts the higher number.
-uint8_t rbu_enter(struct rbu_area *area, uint16_t train, uint16_t route, uint16_t speed);
+// rbu_enter: the length is 1 to RBU_LONGEST_TRAIN; 0 is refused too. rbu_leave: when the whole train has gone off by its exit; all that
+// is allocated to it is freed. rbu_position: frees what was under a train and no longer is, once its rear is at the segment's end or
+// past it. rbu_grant: of the trains that ask for a free segment the one whose `count` is highest gets it, of equal counts the higher number.
+uint8_t rbu_enter(struct rbu_area *area, uint16_t train, uint16_t route, uint16_t speed, uint16_t length);
 uint8_t rbu_leave(struct rbu_area *area, uint16_t train);
 uint8_t rbu_speed(struct rbu_area *area, const uint16_t *wishes, size_t count);
 uint8_t rbu_request(struct rbu_area *area);

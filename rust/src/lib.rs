@@ -8,7 +8,7 @@
 //! # fn main() -> Result<(), rbu::Refusal> {
 //! let file = include_bytes!(concat!(env!("CARGO_MANIFEST_DIR"), "/../crates/area_a/stdin"));
 //! let mut area = rbu::Area::start(file)?;
-//! area.enter(1, 1, 250)?;
+//! area.enter(1, 1, 250, 6000)?;
 //! area.speed(&[300; rbu::TRAINS])?;
 //! area.request()?;
 //! area.grant()?;
@@ -42,6 +42,8 @@ pub const TRAINS: usize = 24;
 pub const FASTEST: u16 = 2000;
 /// The greatest `d` and the greatest length of a segment, in decimetres.
 pub const LONGEST: u32 = 4_000_000;
+/// The greatest length of a train, in decimetres.
+pub const LONGEST_TRAIN: u16 = 20_000;
 
 // ---- answers
 
@@ -52,8 +54,8 @@ pub struct Refusal {
     pub place: u16,
 }
 
-/// The words for the answers, by number: document 01's, and for 22 ours.
-const WORDS: [&str; 23] = [
+/// The words for the answers, by number: document 01's, and for 22 and 23 ours.
+const WORDS: [&str; 24] = [
     "done",
     "size",
     "damaged",
@@ -77,6 +79,7 @@ const WORDS: [&str; 23] = [
     "no exit",
     "wishes",
     "buffer",
+    "length",
 ];
 
 impl Refusal {
@@ -105,9 +108,10 @@ fn answer(number: u8, place: u16) -> Result<(), Refusal> {
 
 // ---- the record
 
-/// A train: route and place in it, counted from 1; route 0 is a train off, which is all zero. Position in its segment in decimetres,
-/// speed in decimetres per cycle; `asks` is 1 between request and grant where it asks for its next segment, and 0 otherwise; `count` is
-/// at how many grant steps it has asked and got nothing since it entered or was last granted a segment, 65,535 at the most.
+/// A train: route and place in it, counted from 1; route 0 is a train off, which is all zero. Place and position are its front's:
+/// position in its segment in decimetres; speed in decimetres per cycle; its rear lies `length` decimetres behind its front along the
+/// route. `asks` is 1 between request and grant where it asks for its next segment, and 0 otherwise; `count` is at how many grant steps
+/// it has asked and got nothing since it entered or was last granted a segment, 65,535 at the most.
 #[repr(C)]
 #[derive(Clone, Copy, PartialEq, Eq, Debug)]
 pub struct Train {
@@ -116,12 +120,13 @@ pub struct Train {
     pub count: u16,
     pub position: u32,
     pub speed: u16,
+    pub length: u16,
     pub asks: u8,
 }
 
 impl Train {
     /// A train off.
-    pub const OFF: Train = Train { route: 0, place: 0, count: 0, position: 0, speed: 0, asks: 0 };
+    pub const OFF: Train = Train { route: 0, place: 0, count: 0, position: 0, speed: 0, length: 0, asks: 0 };
 
     pub fn is_on(&self) -> bool {
         self.route != 0
@@ -183,7 +188,7 @@ pub struct Record {
 }
 
 /// The bytes of a record.
-pub const RECORD_SIZE: usize = 2012;
+pub const RECORD_SIZE: usize = 2108;
 
 const _: () = assert!(size_of::<Record>() == RECORD_SIZE && align_of::<Record>() == 4, "the layout of a record");
 
@@ -223,13 +228,14 @@ impl Area {
         answer(number, place)
     }
 
-    /// The train enters at the start of the route. Arguments are tested whole: train 257 is refused.
-    pub fn enter(&mut self, train: u16, route: u16, speed: u16) -> Result<(), Refusal> {
+    /// The front of the train enters at the start of the route. Arguments are tested whole: train 257 is refused. Its length, in
+    /// decimetres, is 1 to [`LONGEST_TRAIN`].
+    pub fn enter(&mut self, train: u16, route: u16, speed: u16, length: u16) -> Result<(), Refusal> {
         // SAFETY: the record is lent by `&mut`.
-        answer(unsafe { rbu_enter(&mut self.record, train, route, speed) }, 0)
+        answer(unsafe { rbu_enter(&mut self.record, train, route, speed, length) }, 0)
     }
 
-    /// The train goes off.
+    /// The train goes off, when the whole of it has gone by its exit: all that is allocated to it is freed.
     pub fn leave(&mut self, train: u16) -> Result<(), Refusal> {
         // SAFETY: the record is lent by `&mut`.
         answer(unsafe { rbu_leave(&mut self.record, train) }, 0)
@@ -254,7 +260,7 @@ impl Area {
         answer(unsafe { rbu_grant(&mut self.record) }, 0)
     }
 
-    /// The position step: trains run on by their speeds.
+    /// The position step: trains run on by their speeds, and what lies behind the rear is freed.
     pub fn position(&mut self) -> Result<(), Refusal> {
         // SAFETY: the record is lent by `&mut`.
         answer(unsafe { rbu_position(&mut self.record) }, 0)
@@ -303,7 +309,7 @@ impl Area {
         (1..).zip(&self.record.trains).filter(|(_, train)| train.is_on())
     }
 
-    /// The segment that a train is on, by the train's number, 1 to 24; 0 where it is off. Panics where the number is another.
+    /// The segment that a train's front is on, by the train's number, 1 to 24; 0 where it is off. Panics where the number is another.
     pub fn segment_of(&self, number: u8) -> u8 {
         let train = self.train(number);
         let listed = self.record.tables.route(train.route);
@@ -360,7 +366,7 @@ impl Area {
         Area { record }
     }
 
-    /// Overwrites bytes of the record from one on, of 0 to 2,011, those between the fields too. Panics where they go beyond.
+    /// Overwrites bytes of the record from one on, of 0 to 2,107, those between the fields too. Panics where they go beyond.
     pub fn overwrite(&mut self, from: usize, bytes: &[u8]) {
         assert!(bytes.len() <= RECORD_SIZE && from <= RECORD_SIZE - bytes.len(), "a record has {RECORD_SIZE} bytes");
         let record: *mut Record = &mut self.record;

@@ -10,7 +10,7 @@ use crate::Record;
 #[link(name = "rbu", kind = "static")]
 extern "C" {
     pub fn rbu_start(area: *mut Record, file: *const u8, file_length: usize, place: *mut u16) -> u8;
-    pub fn rbu_enter(area: *mut Record, train: u16, route: u16, speed: u16) -> u8;
+    pub fn rbu_enter(area: *mut Record, train: u16, route: u16, speed: u16, length: u16) -> u8;
     pub fn rbu_leave(area: *mut Record, train: u16) -> u8;
     pub fn rbu_speed(area: *mut Record, wishes: *const u16, count: usize) -> u8;
     pub fn rbu_request(area: *mut Record) -> u8;

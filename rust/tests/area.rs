@@ -30,7 +30,7 @@ fn cycle(area: &mut Area) {
 /// Area A with the two trains of the listing after some cycles.
 fn area_a(cycles: usize) -> Area {
     let mut area = Area::start(AREA_A).unwrap();
-    assert_eq!((area.enter(1, 1, 250), area.enter(2, 2, 200)), (Ok(()), Ok(())));
+    assert_eq!((area.enter(1, 1, 250, 1), area.enter(2, 2, 200, 1)), (Ok(()), Ok(())));
     (0..cycles).for_each(|_| cycle(&mut area));
     area
 }
@@ -58,7 +58,7 @@ fn a_fast_line() {
     assert_eq!(Area::of_record(record).write(&mut file), Ok(()));
     let mut area = Area::start(&file).unwrap();
     assert_eq!(*area.record(), record);
-    assert_eq!((area.enter(1, 1, FASTEST + 1), area.enter(1, 1, FASTEST)), (refusal(19, 0), Ok(())));
+    assert_eq!((area.enter(1, 1, FASTEST + 1, 1), area.enter(1, 1, FASTEST, 1)), (refusal(19, 0), Ok(())));
     for cycle in 1..=3 {
         assert_eq!(area.speed(&[u16::MAX; TRAINS]).and(area.request()).and(area.grant()).and(area.position()), Ok(()));
         assert_eq!(area.record().trains[0].position, cycle * u32::from(FASTEST));
@@ -96,7 +96,7 @@ fn what_a_record_holds() {
     assert_eq!(tables.flags[..4], [1, 1, 2, 0]);
     assert_eq!([0, 1, 2, 3, 31, 255].map(|route| tables.route(route).to_vec()), [vec![], vec![1, 3], vec![2, 3], vec![], vec![], vec![]]);
     assert_eq!([1, 2, 3, 62].map(|segment| area.allocated_to(segment)), [1, 2, 2, 0]);
-    assert_eq!(*area.train(1), Train { route: 1, place: 1, count: 1, position: 1790, speed: 290, asks: 0 });
+    assert_eq!(*area.train(1), Train { route: 1, place: 1, count: 1, position: 1790, speed: 290, length: 1, asks: 0 });
     assert_eq!((*area.train(3), area.segment_of(3)), (Train::OFF, 0));
     assert_eq!(area.report(), Ok(Report { allocated: 3, free: 0 }));
     assert!(area.is_sound());
@@ -111,9 +111,9 @@ fn what_a_record_holds() {
 fn turns_at_a_merge() {
     let mut area = Area::start(AREA_A).unwrap();
     let counts = |area: &Area| [1, 2].map(|train| area.train(train).count);
-    assert_eq!(area.enter(1, 1, 300), Ok(()));
+    assert_eq!(area.enter(1, 1, 300, 1), Ok(()));
     (0..2).for_each(|_| cycle(&mut area));
-    assert_eq!(area.enter(2, 2, 290), Ok(()));
+    assert_eq!(area.enter(2, 2, 290, 1), Ok(()));
     (0..3).for_each(|_| cycle(&mut area));
     assert_eq!((area.allocated_to(3), counts(&area)), (0, [0, 0]));
     cycle(&mut area);
@@ -124,16 +124,45 @@ fn turns_at_a_merge() {
     assert_eq!((area.allocated_to(3), counts(&area)), (1, [0, 0]));
 }
 
+/// A train of 600 m: the segment that its front has left is free once its rear is at its end, and not before.
+#[test]
+fn a_long_train() {
+    let mut area = Area::start(AREA_A).unwrap();
+    assert_eq!(area.enter(1, 1, 300, 6000), Ok(()));
+    let mut freed = None;
+    for number in 1..=50 {
+        cycle(&mut area);
+        let front = area.train(1);
+        let under_1 = area.segment_of(1) == 1 || front.position < 6000;
+        assert_eq!((area.allocated_to(1), front.length), (u8::from(under_1), 6000));
+        assert!(area.is_sound());
+        if !under_1 && freed.is_none() {
+            freed = Some((number, front.position));
+        }
+    }
+    assert_eq!(freed, Some((44, 6090)));
+    assert_eq!((area.leave(1), area.report()), (Ok(()), Ok(Report { allocated: 0, free: 1 })));
+    // a segment under it that is not its own, and a length that no train has
+    let mut record = *area_a(6).record();
+    record.trains[0].length = 0;
+    assert!(!Area::of_record(record).is_sound());
+    record.trains[0].length = LONGEST_TRAIN;
+    assert!(Area::of_record(record).is_sound());
+}
+
 #[test]
 fn refused_calls() {
     let mut area = area_a(1);
     for train in [0, 25, 257, 65_535] {
-        refused(&mut area, 13, |area| area.enter(train, 1, 0));
+        refused(&mut area, 13, |area| area.enter(train, 1, 0, 1));
         refused(&mut area, 13, |area| area.leave(train));
     }
-    refused(&mut area, 14, |area| area.enter(1, 1, 0));
-    refused(&mut area, 16, |area| area.enter(3, 258, 0));
-    refused(&mut area, 18, |area| area.enter(3, 1, 0));
+    refused(&mut area, 14, |area| area.enter(1, 1, 0, 0));
+    refused(&mut area, 16, |area| area.enter(3, 258, 0, 0));
+    for length in [0, LONGEST_TRAIN + 1, u16::MAX] {
+        refused(&mut area, 23, |area| area.enter(3, 1, 0, length));
+    }
+    refused(&mut area, 18, |area| area.enter(3, 1, 0, LONGEST_TRAIN));
     refused(&mut area, 15, |area| area.leave(24));
     refused(&mut area, 20, |area| area.leave(2));
     refused(&mut area, 12, Area::request);
@@ -143,7 +172,7 @@ fn refused_calls() {
         refused(&mut area, 21, |area| area.speed(&vec![300; count]));
     }
     let mut empty = Area::start(AREA_A).unwrap();
-    refused(&mut empty, 19, |area| area.enter(1, 1, 301));
+    refused(&mut empty, 19, |area| area.enter(1, 1, 301, 1));
     assert_eq!(empty.report(), Ok(Report { allocated: 0, free: 1 }));
 }
 
@@ -159,7 +188,7 @@ fn refused_files() {
         area.overwrite(0, &[0xa5; RECORD_SIZE]);
         assert_eq!(area.restart(file), refusal(number, place));
         assert_eq!(*area.record(), Record::BLANK);
-        refused(&mut area, 11, |area| area.enter(1, 1, 0));
+        refused(&mut area, 11, |area| area.enter(1, 1, 0, 0));
         assert_eq!((area.is_sound(), area.report(), area.report_numbers()), (false, refusal(11, 0), (11, 0, 0)));
         assert_eq!((area.restart(AREA_A), &area), (Ok(()), &Area::start(AREA_A).unwrap()));
     }
@@ -170,8 +199,8 @@ fn refused_files() {
 fn words() {
     let word = |number| Refusal { number, place: 0 }.word();
     assert_eq!(
-        (word(0), word(11), word(16), word(21), word(22), word(23)),
-        ("done", "unsound", "route number", "wishes", "buffer", "no such answer")
+        (word(0), word(11), word(16), word(21), word(22), word(23), word(24)),
+        ("done", "unsound", "route number", "wishes", "buffer", "length", "no such answer")
     );
     let wrong: Box<dyn std::error::Error> = Box::new(Refusal { number: 6, place: 62 });
     assert_eq!(wrong.to_string(), "6 62 segment");
@@ -181,7 +210,7 @@ fn words() {
 #[test]
 fn runs_over_bytes() {
     let call = |start: &[u16]| std::array::from_fn::<u16, CALL_ITEMS, _>(|item| start.get(item).copied().unwrap_or(300));
-    let mut script = [call(&[1, 1, 1, 250]), call(&[1, 2, 2, 200])].concat();
+    let mut script = [call(&[1, 1, 1, 250, 1]), call(&[1, 2, 2, 200, 1])].concat();
     for _ in 0..6 {
         script.extend([call(&[3, 0, 0, 0, 0, 0, 24]), call(&[4]), call(&[5]), call(&[6])].concat());
     }
@@ -193,7 +222,7 @@ fn runs_over_bytes() {
     for (train, told) in area.record().trains.iter().zip(state[64..].chunks(32)) {
         assert_eq!(told[..3], [train.route, train.place, train.asks]);
         assert_eq!((&told[4..8], &told[8..10]), (&train.position.to_le_bytes()[..], &train.speed.to_le_bytes()[..]));
-        assert_eq!(told[10..12], train.count.to_le_bytes());
+        assert_eq!((&told[10..12], &told[12..14]), (&train.count.to_le_bytes()[..], &train.length.to_le_bytes()[..]));
     }
     assert!(bytes::sound(AREA_A, &state));
     assert_eq!(bytes::report_record(AREA_A, &state), (0, 3, 0));
@@ -227,7 +256,7 @@ fn any_record() {
     refused(&mut damaged, 11, |area| area.speed(&[300; TRAINS]));
     assert_eq!(damaged.report_numbers(), (11, 0, 0));
     assert_eq!(Area::of_record(*area.record()), area);
-    // byte 2,008 is the step due, the bytes behind it hold nothing
+    // byte 2,104 is the step due, the bytes behind it hold nothing
     let mut other = area_a(3);
     other.overwrite(RECORD_SIZE - 4, &[3, 7, 8, 9]);
     assert_eq!((other.due(), other.is_sound(), other.position()), (3, true, Ok(())));
@@ -235,7 +264,7 @@ fn any_record() {
 }
 
 #[test]
-#[should_panic(expected = "a record has 2012 bytes")]
+#[should_panic(expected = "a record has 2108 bytes")]
 fn overwriting_goes_no_further_than_the_record() {
     area_a(0).overwrite(RECORD_SIZE - 1, &[0, 0]);
 }

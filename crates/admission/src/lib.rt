@@ -25,8 +25,9 @@ pub fn enter_refusal<'a>(
     train: u16,
     route: u16,
     speed: u16,
+    length: u16,
 ) -> Entry
-    ensures { λ r. ⌜ ((T : Tables) → T .routes ≡ routes → T .routebytes ≡ now (routebytes .entry) → T .flags ≡ now (flags .entry) → T .limits ≡ now (limits .entry) → (r .number ≡ firstOf (not ok ⇒ 11 ∷ entryTests T (now (allocations .entry)) trains train route speed) .number) × (r .number ≡ 0 → r .first ≡ firstSegment T route)) ⌝ }
+    ensures { λ r. ⌜ ((T : Tables) → T .routes ≡ routes → T .routebytes ≡ now (routebytes .entry) → T .flags ≡ now (flags .entry) → T .limits ≡ now (limits .entry) → (r .number ≡ firstOf (not ok ⇒ 11 ∷ entryTests T (now (allocations .entry)) trains train (record { route = route; length = length }) speed) .number) × (r .number ≡ 0 → r .first ≡ firstSegment T route)) ⌝ }
 {
     if !ok {
         return Entry {
@@ -50,6 +51,12 @@ pub fn enter_refusal<'a>(
     if (route == 0) | ((routes as u16) < route) {
         return Entry {
             number: 16,
+            first: 0,
+        };
+    }
+    if (length == 0) | (20000 < length) {
+        return Entry {
+            number: 23,
             first: 0,
         };
     }

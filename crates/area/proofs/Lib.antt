@@ -1,3 +1,5 @@
 pub mod Laws
 pub mod Soundness
 pub mod GrantFacts
+pub mod PositionFacts
+pub mod EntryFacts

@@ -1,5 +1,6 @@
--- The calls on an area (document 01, "The calls" and "Refusals" 11 to 21). Each has its tests in the paper's order, of which the
--- first that holds is the answer, and the record that it hands back when none holds; a refusal hands back the record as it came.
+-- The calls on an area (document 01, "The calls" and "Refusals" 11 to 21; document 02, R-4, refusal 23). Each has its tests in the paper's
+-- order, of which the first that holds is the answer, and the record that it hands back when none holds; a refusal hands back the record
+-- as it came.
 use Prim.Native.Nat.{ℕ}
 use mathlib.Core.Bool.{Bool, not}
 use mathlib.Core.List.{List, [], _∷_}
@@ -9,7 +10,7 @@ use Rattle.lists.specs.Words.{if_then_else_, each}
 use Rattle.lists.specs.Tests.{Test, _⇒_, firstOf}
 use Rattle.summary.specs.Summary.{summaryOf}
 use Rattle.trains.specs.Due.{speedDue, requestDue, grantDue, positionDue}
-use Rattle.trains.specs.Train.{mostTrains, off, entered}
+use Rattle.trains.specs.Train.{mostTrains, Journey, off, entered}
 use Rattle.trains.specs.Cycle.{sped, requested, moved, freed}
 use Rattle.trains.specs.Grant.{granted, calmed}
 use Rattle.trains.specs.EnterLeave.{firstSegment, takenBy, freedBy, becomes, entryTests, exitTests}
@@ -35,21 +36,21 @@ changeOf o = record { number = numberOf (o .answer); allocations = o .area .allo
 abbrev pub notDue : ℕ → Area → Bool
 notDue step a = not (eqb (a .due) step)
 
--- ---- enter (train t, route r, speed v)
-abbrev pub enterTests : Area → ℕ → ℕ → ℕ → List Test
-enterTests a t r v = not (sound a) ⇒ 11 ∷ entryTests (a .tables) (a .allocations) (a .trains) t r v
+-- ---- enter (train t, journey j, speed v)
+abbrev pub enterTests : Area → ℕ → Journey → ℕ → List Test
+enterTests a t j v = not (sound a) ⇒ 11 ∷ entryTests (a .tables) (a .allocations) (a .trains) t j v
 
-unfoldable pub afterEnter : Area → ℕ → ℕ → ℕ → Area
-afterEnter a t r v =
+unfoldable pub afterEnter : Area → ℕ → Journey → ℕ → Area
+afterEnter a t j v =
     record {
       tables = a .tables;
-      allocations = each (takenBy (firstSegment (a .tables) r) t) (a .allocations);
-      trains = each (becomes t (entered r v)) (a .trains);
+      allocations = each (takenBy (firstSegment (a .tables) (j .route)) t) (a .allocations);
+      trains = each (becomes t (entered j v)) (a .trains);
       due = a .due;
     }
 
-unfoldable pub enterCall : Area → ℕ → ℕ → ℕ → Outcome
-enterCall a t r v = outcome (enterTests a t r v) (afterEnter a t r v) a
+unfoldable pub enterCall : Area → ℕ → Journey → ℕ → Outcome
+enterCall a t j v = outcome (enterTests a t j v) (afterEnter a t j v) a
 
 -- ---- leave (train t)
 abbrev pub leaveTests : Area → ℕ → List Test

@@ -4,3 +4,4 @@ pub mod Calls
 pub mod GrantFacts
 pub mod Write
 pub mod Examined
+pub mod PositionFacts

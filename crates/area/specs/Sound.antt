@@ -1,4 +1,4 @@
--- A sound record (document 01, "A sound record").
+-- A sound record (document 01, "A sound record"; document 02, R-4).
 use Prim.Native.Nat.{ℕ}
 use mathlib.Core.Bool.{Bool, _&&_}
 use lib.Dec.{leb}

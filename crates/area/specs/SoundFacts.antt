@@ -1,4 +1,4 @@
--- What a sound record means, as plain facts (document 01, "A sound record"): the record of facts that an inspector reads.
+-- What a sound record means, as plain facts (document 01, "A sound record"; document 02, R-4): the record of facts that an inspector reads.
 use Prim.Native.Nat.{ℕ, _≤_}
 use mathlib.Core.Path.{_≡_}
 use mathlib.Core.Logic.{_⊎_}
@@ -16,6 +16,6 @@ pub record SoundArea (a : Area) : Type 0 where
   -- a train off is all zero
   pub offs : (t : ℕ) → 1 ≤ t → t ≤ mostTrains → trainAt (a .trains) t .route ≡ 0 → trainAt (a .trains) t ≡ off
   pub ons : (t : ℕ) → 1 ≤ t → t ≤ mostTrains → 1 ≤ trainAt (a .trains) t .route → SoundTrain (a .tables) (a .allocations) (a .due) t (trainAt (a .trains) t)
-  -- every allocation is 0, or one of a train on, under which the segment is or ahead of which it may be allocated
+  -- every allocation is 0, or the number of a train on that has the segment under it or as its next
   pub allocations :
       (s : ℕ) → 1 ≤ s → s ≤ mostSegments → (at (a .allocations) s ≡ 0) ⊎ SoundAllocation (a .tables) (a .trains) s (at (a .allocations) s)

@@ -47,7 +47,7 @@ pub struct Report {
     pub free: u8,
 }
 
-// Whether the record is sound, and where its trains stand, which speed and request read again.
+// Whether the record is sound, and where its trains stand, which speed, request and position read again.
 pub struct Examined {
     pub ok: bool,
     pub spots: [Spot; 24],
@@ -95,7 +95,7 @@ pub fn examine<'a>(
         return Examined { ok: false, spots };
     }
     let held = *allocations;
-    let ok = soundness::allocations_sound(routebytes, segments, held, trains);
+    let ok = soundness::allocations_sound(routebytes, held, spots, trains);
     Examined { ok, spots }
 }
 
@@ -109,11 +109,12 @@ pub fn enter_found<'a>(
     train: u16,
     route: u16,
     speed: u16,
+    length: u16,
     allocations: [u8; 62],
     trains: [Train; 24],
     due: u8,
 ) -> Change
-    ensures { λ r. ⌜ ((a : Area) → Parts a found allocations trains due → routes ≡ a .tables .routes → now (routebytes .entry) ≡ a .tables .routebytes → now (flags .entry) ≡ a .tables .flags → now (limits .entry) ≡ a .tables .limits → r ≡ changeOf (enterCall a train route speed)) ⌝ }
+    ensures { λ r. ⌜ ((a : Area) → Parts a found allocations trains due → routes ≡ a .tables .routes → now (routebytes .entry) ≡ a .tables .routebytes → now (flags .entry) ≡ a .tables .flags → now (limits .entry) ≡ a .tables .limits → r ≡ changeOf (enterCall a train (record { route = route; length = length }) speed)) ⌝ }
 {
     let entry = admission::enter_refusal(
         found.ok,
@@ -126,6 +127,7 @@ pub fn enter_found<'a>(
         train,
         route,
         speed,
+        length,
     );
     let number = entry.number;
     if number != 0 {
@@ -139,7 +141,11 @@ pub fn enter_found<'a>(
     let t = train as u8;
     let r = route as u8;
     let allocations_after = enter_leave::taken_all(allocations, entry.first, t);
-    let trains_after = enter_leave::with_train(trains, t, standing::entered_train(r, speed));
+    let trains_after = enter_leave::with_train(
+        trains,
+        t,
+        standing::entered_train(r, length, speed),
+    );
     Change {
         number: 0,
         allocations: allocations_after,
@@ -278,8 +284,15 @@ pub fn position_found<'a>(
             due,
         };
     }
-    let allocations_after = cycle::released_all(routebytes, lengths, trains, allocations);
-    let trains_after = cycle::moved_all(routebytes, lengths, trains);
+    let spots = found.spots;
+    let trains_after = cycle::moved_all(spots, trains);
+    let allocations_after = cycle::released_all(
+        routebytes,
+        lengths,
+        spots,
+        trains_after,
+        allocations,
+    );
     Change {
         number: 0,
         allocations: allocations_after,
@@ -332,8 +345,8 @@ impl Area {
         found.ok
     }
 
-    pub fn enter(self, train: u16, route: u16, speed: u16) -> Outcome
-        ensures { λ r. ⌜ r ≡ enterCall self train route speed ⌝ }
+    pub fn enter(self, train: u16, route: u16, speed: u16, length: u16) -> Outcome
+        ensures { λ r. ⌜ r ≡ enterCall self train (record { route = route; length = length }) speed ⌝ }
     {
         let allocations = self.allocations;
         let trains = self.trains;
@@ -363,6 +376,7 @@ impl Area {
             train,
             route,
             speed,
+            length,
             allocations,
             trains,
             due,

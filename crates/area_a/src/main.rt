@@ -75,12 +75,12 @@ fn run_file(file: &[u8]) {
     if refused(b"load", answer) {
         return;
     }
-    let one = loaded.area.enter(1, 1, 250);
+    let one = loaded.area.enter(1, 1, 250, 1);
     let answer = one.answer;
     if refused(b"enter of train 1", answer) {
         return;
     }
-    let both = one.area.enter(2, 2, 200);
+    let both = one.area.enter(2, 2, 200, 1);
     let answer = both.answer;
     if refused(b"enter of train 2", answer) {
         return;

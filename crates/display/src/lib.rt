@@ -14,6 +14,7 @@ fn say_train(trains: [Train; 24], t: u8) {
     console::say_number(b" speed ", x.speed as u64);
     console::say_number(b" asks ", x.asks as u64);
     console::say_number(b" count ", x.count as u64);
+    console::say_number(b" length ", x.length as u64);
     io::write_all(STDOUT_FILENO, b"\n");
 }
 

@@ -62,7 +62,7 @@ Refuses a o = (numberOf (o .answer) ≡ 11) × (o .area ≡ a)
 -- each call's first test is that the record is sound
 refuses : (a : Area) → sound a ≡ false → (c : Call) → Refuses a (called a c)
 unfolding called enterCall leaveCall speedCall requestCall grantCall positionCall answerOf
-refuses a e (Enter t r v) = rw e (refl, refl)
+refuses a e (Enter t j v) = rw e (refl, refl)
 refuses a e (Leave t) = rw e (refl, refl)
 refuses a e (Speed wishes) = rw e (refl, refl)
 refuses a e Request = rw e (refl, refl)

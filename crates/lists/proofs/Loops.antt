@@ -82,7 +82,7 @@ module _ (p : ℕ → Bool) where
       rw (add-one i) (least-kept (suc i) n i (least-here i before (rw (← add-one i) here)) below)
 
   -- what the least number is: one of the numbers, for which the test holds, and for none before it
-  least-le : (n : ℕ) → least n p ≤ n
+  pub least-le : (n : ℕ) → least n p ≤ n
   unfolding least
   least-le zero = omega arith
   least-le (suc n) = go (least n p) refl (least-le n)

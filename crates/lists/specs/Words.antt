@@ -2,6 +2,7 @@
 use Prim.Native.Nat.{ℕ, zero, suc}
 use mathlib.Core.Bool.{Bool, true, false, not, _&&_}
 use mathlib.Core.List.{List, [], _∷_}
+use lib.Dec.{ltb}
 use lib.ListN.{getD}
 
 -- a choice by a test
@@ -46,6 +47,10 @@ suc a orElse b = suc a
 unfoldable pub least : ℕ → (ℕ → Bool) → ℕ
 least zero p = 0
 least (suc n) p = least n p orElse (if p (suc n) then suc n else 0)
+
+-- the test holds for one of the numbers 1 to n
+abbrev pub some : ℕ → (ℕ → Bool) → Bool
+some n p = ltb 0 (least n p)
 
 -- the first of the numbers 1 to n for which the test fails; 0 where it fails for none
 abbrev pub firstFailing : ℕ → (ℕ → Bool) → ℕ

@@ -25,7 +25,7 @@ blank-unsound = refl
 pub fresh-sound : (file : List ℕ) → accepted file ≡ true → sound (fresh (decoded file)) ≡ true
 unfolding fresh
 fresh-sound file e =
-    sound-iff (fresh (decoded file)) .1
+    sound-iff (fresh (decoded file)) refl .1
     (record {
       tables = accepted-iff file .0 e .tables;
       due = omega arith;

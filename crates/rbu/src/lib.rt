@@ -33,11 +33,11 @@ pub extern "C" fn rbu_start(area: &mut Area, file: &[u8], place: &mut u16) -> u8
 
 // The six calls: the number of the answer.
 #[no_mangle]
-pub extern "C" fn rbu_enter(area: &mut Area, train: u16, route: u16, speed: u16) -> u8
-    ensures { λ r. ⌜ Answered (now (area .entry)) (Enter train route speed) r (now (area .exit)) ⌝ }
+pub extern "C" fn rbu_enter(area: &mut Area, train: u16, route: u16, speed: u16, length: u16) -> u8
+    ensures { λ r. ⌜ Answered (now (area .entry)) (Enter train (record { route = route; length = length }) speed) r (now (area .exit)) ⌝ }
 {
     let before = *area;
-    let change = running::enter(before, train, route, speed);
+    let change = running::enter(before, train, route, speed, length);
     area.allocations = change.allocations;
     area.trains = change.trains;
     area.due = change.due;

@@ -1,10 +1,13 @@
 -- The rows of the table hold: what load answers to the files, what the calls position and enter make of a record, and the computed test.
 use Prim.Native.Nat.{ℕ}
 use mathlib.Core.Path.{_≡_, refl, ap, _∙_}
-use mathlib.Core.Bool.{true, false}
+use mathlib.Core.Bool.{Bool, true, false, _&&_}
 use mathlib.Core.List.{List, [], _∷_}
 use lib.Dec.{ltb}
-use Rattle.lists.specs.Words.{nth, at, each, every}
+use lib.ListN.{replicate}
+use Rattle.lists.specs.Words.{if_then_else_, nth, at, each, every, least}
+use Rattle.lists.specs.Tests.{firstOf}
+use Rattle.lists.proofs.Cases.{by-test}
 use Rattle.file.specs.Bytes.{two, twoAt}
 use Rattle.braking.specs.Braking.{fallingSum, S, B}
 use Rattle.tables.specs.Bounds.{bounds, smallerBounds}
@@ -12,11 +15,16 @@ use Rattle.tables.specs.Tables.{countOf, segmentAt}
 use Rattle.tables.specs.Rules.{meets}
 use Rattle.tables.proofs.Consistency.{meets-iff}
 use Rattle.decoding.specs.Decoding.{decoded}
-use Rattle.trains.specs.Train.{trainAt, ownIn, nextIn, occupiedIn, aheadIn}
-use Rattle.trains.specs.Cycle.{wants, movesIn, movedIn}
-use Rattle.trains.specs.Sound.{placeSound, toRun, brakingSound, askingSound, standsSound, allocationSound}
+use Rattle.tables.specs.declared.Tables.{Tables}
+use Rattle.trains.specs.declared.Train.{Train}
+use Rattle.trains.specs.Due.{positionDue}
+use Rattle.trains.specs.Train.{lengthOk, off, trainAt, ownIn, nextIn, rearFrom, rearIn, occupiedIn, holdsAllIn, aheadIn}
+use Rattle.trains.specs.Cycle.{wants, movesIn, movedIn, moved, released, freed}
+use Rattle.trains.specs.EnterLeave.{entryTests}
+use Rattle.trains.specs.Sound.{placeSound, toRun, brakingSound, askingSound, standsSound, trainSound, allocationSound}
 use Rattle.answers.specs.declared.Answer.the-variants.{Done, Refused}
 use Rattle.answers.specs.Answers.{answerOf, numberOf}
+use Rattle.answers.proofs.Answers.{number-of-answer}
 use Rattle.loading.specs.Load.{fresh, loaded}
 use Rattle.loading.specs.Before.{loadedWithin}
 use Rattle.area.specs.declared.Area.{Area}
@@ -28,8 +36,8 @@ use Rattle.loading.proofs.Loading.{done-iff}
 use Rattle.loading.proofs.Fresh.{fresh-sound}
 use Rattle.separation.specs.Calls.{Enter, called}
 use Rattle.separation.specs.Runs.{World, noted, worldBy, next, afterFrom, begin, after}
-use Rattle.separation.proofs.Demand3.{from-fresh}
-use Rattle.rows.specs.AreaA.{header, segments, file, headerA, segmentsA, headerFast, segmentsFast, segmentsSlow, segments1000, segments1, moving}
+use Rattle.separation.proofs.Demand3.{file-fresh, from-fresh}
+use Rattle.rows.specs.AreaA.{header, segments, file, headerA, segmentsA, headerFast, segmentsFast, segmentsSlow, segments1000, segments1, moving, on, line}
 use Rattle.rows.specs.Table.{holds, allHold, table}
 use Rattle.rows.proofs.AreaA.{tablesOf, tables, left, found, answered}
 
@@ -139,22 +147,45 @@ two-due : loaded (file (header 2000 1 2000999 237 101) (segments 4000001 2000 40
 unfolding found left answerOf
 two-due = load-answer _ ∙ answered 2000 1 2000999 237 101 4000001 2000 4000001 2000 4000001 2000 109 78 bounds (left 0 true false 0 0) refl
 
--- the record is sound: its tables are those of a file that passes
+-- a record of Area A with position due: its tables are those of a file that passes
 tables-A : meets (decoded (file headerA segmentsA)) ≡ true
 tables-A = meets-iff _ .1 (done-iff _ .0 (ap numberOf area-A) .tables)
 
-is-sound : sound moving ≡ true
-unfolding sound moving
-is-sound =
-    rw (tables-A, tables)
-    (unfold tablesOf every standsSound allocationSound placeSound brakingSound toRun askingSound ownIn nextIn occupiedIn aheadIn wants countOf segmentAt nth S fallingSum B in refl)
+module _ (place position speed length first third : ℕ) where
+  abbrev before : Area
+  before = moving place position speed length first third
 
-moved-on : trainAt (positionCall moving .area .trains) 1 ≡ record { route = 1; place = 2; position = 0; speed = 290; asks = 0; count = 0 }
-unfolding positionCall afterPosition moving each nth
-moved-on = rw (is-sound, tables) (unfold tablesOf ownIn segmentAt movesIn movedIn in refl)
+  abbrev A : List ℕ
+  A = first ∷ 0 ∷ third ∷ replicate 59 0
+
+  abbrev X : List Train
+  X = record { route = 1; place = place; position = position; speed = speed; length = length; asks = 0; count = 0 } ∷ replicate 23 off
+
+  abbrev T : Tables
+  T = tablesOf 300 10 4650 6000 300 5500 290 8000 290
+
+  -- it is sound where its trains and its allocations are
+  abbrev partsSound : Bool
+  partsSound = every 24 (λ (t : ℕ). trainSound T A positionDue t (trainAt X t)) && every 62 (λ (s : ℕ). allocationSound T X s (at A s))
+
+  is-sound : sound before ≡ partsSound
+  unfolding sound moving
+  is-sound = rw (tables-A, tables)
+
+  moved-on : partsSound ≡ true → trainAt (positionCall before .area .trains) 1 ≡ moved T (trainAt X 1)
+  unfolding positionCall afterPosition moving each nth
+  moved-on ok = rw (is-sound ∙ ok, tables)
+
+  held-by : partsSound ≡ true → at (positionCall before .area .allocations) 1 ≡ freed T X 1 first
+  unfolding positionCall afterPosition moving each nth
+  held-by ok = rw (is-sound ∙ ok, tables)
+
+  answered-by : numberOf (positionCall before .answer) ≡ (if partsSound then 0 else 11)
+  unfolding positionCall moving answerOf
+  answered-by = rw is-sound (by-test partsSound (λ e. rw e) (λ e. rw e))
 
 -- train 1 enters the area that load makes of a file of Area A's shape, at a speed that segment 1 allows
-module _ (gmax b d first0 second0 length1 limit1 length2 limit2 length3 limit3 first1 second1 v : ℕ) where
+module _ (gmax b d first0 second0 length1 limit1 length2 limit2 length3 limit3 first1 second1 l v : ℕ) where
   abbrev bytes : List ℕ
   bytes = file (header gmax b d first0 second0) (segments length1 limit1 length2 limit2 length3 limit3 first1 second1)
 
@@ -162,35 +193,55 @@ module _ (gmax b d first0 second0 length1 limit1 length2 limit2 length3 limit3 f
   area = fresh (decoded bytes)
 
   abbrev entering : World
-  entering = worldBy (begin area) (Enter 1 1 v) (record { answer = Done; area = afterEnter area 1 1 v })
+  entering = worldBy (begin area) (Enter 1 (on 1 l) v) (record { answer = Done; area = afterEnter area 1 (on 1 l) v })
 
-  one-call : (a : Area) → afterFrom (begin a) (Enter 1 1 v ∷ []) ≡ worldBy (begin a) (Enter 1 1 v) (enterCall a 1 1 v)
+  one-call : (a : Area) → afterFrom (begin a) (Enter 1 (on 1 l) v ∷ []) ≡ worldBy (begin a) (Enter 1 (on 1 l) v) (enterCall a 1 (on 1 l) v)
   unfolding afterFrom next called begin
   one-call a = refl
 
   entered :
-      sound area ≡ true → ltb (twoAt (two limit1) 0) v ≡ false
-      → enterCall area 1 1 v ≡ record { answer = Done; area = afterEnter area 1 1 v }
+      sound area ≡ true → lengthOk l ≡ true → ltb (twoAt (two limit1) 0) v ≡ false
+      → enterCall area 1 (on 1 l) v ≡ record { answer = Done; area = afterEnter area 1 (on 1 l) v }
   unfolding enterCall answerOf
-  entered ok slow = rw ok (unfold fresh in rw tables (unfold tablesOf segmentAt nth in rw slow))
+  entered ok long slow = rw (ok, long) (unfold fresh in rw tables (unfold tablesOf segmentAt nth in rw slow))
 
-  run : loaded bytes .answer ≡ Done → ltb (twoAt (two limit1) 0) v ≡ false → after bytes (Enter 1 1 v ∷ []) ≡ entering
-  run done slow =
+  run : loaded bytes .answer ≡ Done → lengthOk l ≡ true → ltb (twoAt (two limit1) 0) v ≡ false → after bytes (Enter 1 (on 1 l) v ∷ []) ≡ entering
+  run done long slow =
       let zero = ap numberOf done in
-      from-fresh bytes zero (Enter 1 1 v ∷ [])
+      from-fresh bytes zero (Enter 1 (on 1 l) v ∷ [])
       ∙ (one-call area
-      ∙ ap (worldBy (begin area) (Enter 1 1 v)) (entered (fresh-sound bytes (accepted-iff bytes .1 (done-iff bytes .0 zero))) slow))
+      ∙ ap (worldBy (begin area) (Enter 1 (on 1 l) v)) (entered (fresh-sound bytes (accepted-iff bytes .1 (done-iff bytes .0 zero))) long slow))
 
-  first-allocated : at (afterEnter area 1 1 v .allocations) 1 ≡ 1
+  first-allocated : at (afterEnter area 1 (on 1 l) v .allocations) 1 ≡ 1
   unfolding afterEnter fresh each nth
   first-allocated = rw tables (unfold tablesOf segmentAt in refl)
 
--- THE CLAIM: the values of S and B, the edges of document 01 and those of R-3 hold, as rows of one table; so do the runs with a train on them
+-- the records of Area A that a position step moves are sound
+sounds :
+    (partsSound 1 5710 290 1 1 1 ≡ true) × (partsSound 2 0 1 1 1 1 ≡ true) × (partsSound 2 5989 10 6000 1 1 ≡ true)
+    × (partsSound 2 5990 10 6000 1 1 ≡ true) × (partsSound 2 7980 10 20000 1 1 ≡ true)
+unfolding tablesOf every least standsSound placeSound brakingSound askingSound allocationSound toRun wants ownIn nextIn rearIn rearFrom holdsAllIn occupiedIn aheadIn countOf segmentAt nth S fallingSum
+sounds = (refl, refl, refl, refl, refl)
+
+-- what an enter of train 1 into Area A is answered with: the first of its tests that holds, on Area A's tables with nothing allocated and no
+-- train on
+enters-A :
+    (r l v : ℕ)
+    → numberOf (enterCall (loaded (file headerA segmentsA) .area) 1 (on r l) v .answer)
+    ≡ firstOf (entryTests (tablesOf 300 10 4650 6000 300 5500 290 8000 290) (replicate 62 0) (replicate 24 off) 1 (on r l) v) .number
+unfolding enterCall fresh
+enters-A r l v =
+    let zero = ap numberOf area-A in
+    rw (file-fresh (file headerA segmentsA) zero, fresh-sound (file headerA segmentsA) (accepted-iff _ .1 (done-iff _ .0 zero)), tables)
+    (number-of-answer _ _)
+
+-- THE CLAIM: the values of S and B, the edges of document 01 and those of R-3 and R-4 hold, as rows of one table; so do the runs with a train
+-- on them
 pub rows-hold : allHold table ≡ true
-unfolding allHold table holds
+unfolding allHold table holds line tablesOf every least standsSound placeSound brakingSound askingSound allocationSound toRun wants ownIn nextIn rearIn rearFrom holdsAllIn occupiedIn aheadIn countOf segmentAt nth freed released movedIn movesIn
 rows-hold =
     rw (
-      moved-on,
+      moved-on 1 5710 290 1 1 1 (sounds .0),
       margin-4649,
       length-4950,
       length-4951,
@@ -216,9 +267,26 @@ rows-hold =
       all-due,
       two-due,
       area-A,
-      run 300 10 4650 122 33 6000 300 5500 290 8000 290 251 42 250 area-A refl,
-      run 2000 1 2001000 238 93 4000000 2000 4000000 2000 4000000 2000 106 126 2000 margin-2001000 refl,
+      run 300 10 4650 122 33 6000 300 5500 290 8000 290 251 42 1 250 area-A refl refl,
+      run 2000 1 2001000 238 93 4000000 2000 4000000 2000 4000000 2000 106 126 20000 2000 margin-2001000 refl refl,
       first-allocated,
       first-allocated,
+      held-by 1 5710 290 1 1 1 (sounds .0),
+      held-by 2 0 1 1 1 1 (sounds .1),
+      held-by 2 5989 10 6000 1 1 (sounds .2),
+      held-by 2 5990 10 6000 1 1 (sounds .3),
+      held-by 2 7980 10 20000 1 1 (sounds .4),
+      answered-by 1 0 0 1 1 0,
+      answered-by 1 0 0 0 1 0,
+      answered-by 1 0 0 20000 1 0,
+      answered-by 1 0 0 20001 1 0,
+      answered-by 2 5999 0 6000 0 1,
+      answered-by 2 6000 0 6000 1 1,
+      enters-A 1 1 250,
+      enters-A 1 0 250,
+      enters-A 1 20000 250,
+      enters-A 1 20001 250,
+      enters-A 3 0 250,
+      enters-A 1 0 301,
     )
     (unfold S B fallingSum noted begin in refl)

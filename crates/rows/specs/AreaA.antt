@@ -1,11 +1,13 @@
--- Area A of document 01: its file, block by block, files of its shape with other numbers, and a record of it. Bytes and numbers are in
--- decimal.
+-- Area A of document 01: its file, block by block, files of its shape with other numbers, and records of it; and a line with a longer
+-- route. Bytes and numbers are in decimal.
 use Prim.Native.Nat.{ℕ}
 use mathlib.Core.List.{List, [], _∷_, _++_}
 use lib.ListN.{replicate}
 use Rattle.file.specs.Layout.{blockBytes, headerBytes, segmentBytes, routeBytes}
 use Rattle.decoding.specs.Decoding.{decoded}
-use Rattle.trains.specs.Train.{off}
+use Rattle.tables.specs.declared.Tables.{Tables}
+use Rattle.trains.specs.declared.Train.{Train}
+use Rattle.trains.specs.Train.{Journey, off}
 use Rattle.area.specs.declared.Area.{Area}
 use Rattle.trains.specs.Due.{positionDue}
 
@@ -59,13 +61,38 @@ segments1000 = segments 1000000 1000 1000000 1000 1000000 1000 136 33
 abbrev pub segments1 : List ℕ
 segments1 = segments 1000000 1 1000000 1 1000000 1 199 57
 
--- Area A with position due and train 1 in segment 1, which is 6000 long, where position + speed is 6000; segment 3, its next, is
--- allocated to it too
-unfoldable pub moving : Area
-moving =
+-- Area A with position due and train 1 on route 1, which goes over segment 1, 6000 long, and segment 3, 8000 long. first and third are who
+-- holds these two
+unfoldable pub moving : (place position speed length first third : ℕ) → Area
+moving place position speed length first third =
     record {
       tables = decoded (file headerA segmentsA);
-      allocations = 1 ∷ 0 ∷ 1 ∷ replicate 59 0;
-      trains = record { route = 1; place = 1; position = 5710; speed = 290; asks = 0; count = 0 } ∷ replicate 23 off;
+      allocations = first ∷ 0 ∷ third ∷ replicate 59 0;
+      trains = record { route = 1; place = place; position = position; speed = speed; length = length; asks = 0; count = 0 } ∷ replicate 23 off;
       due = positionDue;
     }
+
+-- what an enter on route r of Area A names
+abbrev pub on : (r length : ℕ) → Journey
+on r length = record { route = r; length = length }
+
+-- a line of five segments of 1000 decimetres each, all on route 1
+unfoldable pub line : Tables
+line =
+    record {
+      segments = 5;
+      routes = 1;
+      gmax = 100;
+      braking = 100;
+      margin = 100;
+      lengths = replicate 5 1000;
+      limits = replicate 5 100;
+      next = 2 ∷ 0 ∷ 3 ∷ 0 ∷ 4 ∷ 0 ∷ 5 ∷ 0 ∷ [];
+      previous = 0 ∷ 0 ∷ 1 ∷ 0 ∷ 2 ∷ 0 ∷ 3 ∷ 0 ∷ 4 ∷ [];
+      flags = 1 ∷ 0 ∷ 0 ∷ 0 ∷ 2 ∷ [];
+      routebytes = 5 ∷ 1 ∷ 2 ∷ 3 ∷ 4 ∷ 5 ∷ [];
+    }
+
+-- a train there that stands with its front at a position of segment 4
+abbrev pub fourth : (position length : ℕ) → Train
+fourth position length = record { route = 1; place = 4; position = position; speed = 0; length = length; asks = 0; count = 0 }

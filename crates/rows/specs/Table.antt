@@ -1,22 +1,25 @@
--- The certain values and the edges of document 01 ("Units and braking" and "Area A") and of document 02, R-3, as rows of one table,
--- with one computed test.
+-- The certain values and the edges of document 01 ("Units and braking" and "Area A") and of document 02, R-3 and R-4, as rows of one
+-- table, with one computed test.
 use Prim.Native.Nat.{ℕ}
-use mathlib.Core.Bool.{Bool, true, _&&_}
+use mathlib.Core.Bool.{Bool, true, false, not, _&&_}
 use mathlib.Core.List.{List, [], _∷_}
 use lib.Dec.{eqb}
-use Rattle.lists.specs.Words.{at}
+use Rattle.lists.specs.Words.{at, every}
 use Rattle.braking.specs.Braking.{S, B}
 use Rattle.tables.specs.Bounds.{smallerBounds}
-use Rattle.trains.specs.Train.{trainAt}
+use Rattle.trains.specs.declared.Train.{Train}
+use Rattle.trains.specs.Due.{positionDue}
+use Rattle.trains.specs.Train.{Journey, trainAt}
+use Rattle.trains.specs.Sound.{trainSound, allocationSound}
 use Rattle.area.specs.declared.Area.{Area}
 use Rattle.answers.specs.declared.Answer.{Answer}
 use Rattle.answers.specs.Answers.{numberOf, placeOf}
 use Rattle.loading.specs.Load.{loaded}
 use Rattle.loading.specs.Before.{loadedWithin}
-use Rattle.area.specs.Calls.{positionCall}
+use Rattle.area.specs.Calls.{enterCall, positionCall}
 use Rattle.separation.specs.Calls.{Call, Enter}
 use Rattle.separation.specs.Runs.{isDone, after}
-use Rattle.rows.specs.AreaA.{header, segments, file, headerA, segmentsA, headerFast, segmentsFast, segmentsSlow, segments1000, segments1, moving}
+use Rattle.rows.specs.AreaA.{header, segments, file, headerA, segmentsA, headerFast, segmentsFast, segmentsSlow, segments1000, segments1, moving, on, line, fourth}
 
 pub data Row : Type 0 where
   -- with this b, S(v) = way; and B(v) = way
@@ -25,8 +28,14 @@ pub data Row : Type 0 where
   -- load answers this file with this number and place; and with the smaller bounds
   Load : (bytes : List ℕ) (number place : ℕ) → Row
   Before : (bytes : List ℕ) (number place : ℕ) → Row
-  -- after the call position on this record, the train has this place and position
+  -- after the call position on this record, the train has this place and position; and segment 1 is allocated so
   Move : (before : Area) (train place position : ℕ) → Row
+  Held : (before : Area) (holder : ℕ) → Row
+  -- position answers this record with this number; and an enter of train 1 at this speed into the area that load makes of this file
+  Moves : (before : Area) (number : ℕ) → Row
+  Enters : (bytes : List ℕ) (journey : Journey) (speed number : ℕ) → Row
+  -- on the line, a train 1 that stands so is sound with these allocations of segments 1 to 5; and each allocation is
+  Stands : (x : Train) (allocations : List ℕ) (trainOk allocationsOk : Bool) → Row
   -- load answers this file with done, and after these calls the train is on the area and the segment is allocated to it
   Run : (bytes : List ℕ) (calls : List Call) (train segment : ℕ) → Row
   -- an edge in two halves
@@ -35,6 +44,11 @@ pub data Row : Type 0 where
 -- an answer has this number and place
 abbrev pub is : Answer → (number place : ℕ) → Bool
 is answer number place = eqb (numberOf answer) number && eqb (placeOf answer) place
+
+-- two tests agree
+abbrev pub same : Bool → Bool → Bool
+same true b = b
+same false b = not b
 
 -- the test of one row
 unfoldable pub holds : Row → Bool
@@ -45,6 +59,12 @@ holds (Before bytes number place) = is (loadedWithin smallerBounds bytes .answer
 holds (Move before train place position) =
     eqb (trainAt (positionCall before .area .trains) train .place) place
     && eqb (trainAt (positionCall before .area .trains) train .position) position
+holds (Held before holder) = eqb (at (positionCall before .area .allocations) 1) holder
+holds (Moves before number) = eqb (numberOf (positionCall before .answer)) number
+holds (Enters bytes journey speed number) = eqb (numberOf (enterCall (loaded bytes .area) 1 journey speed .answer)) number
+holds (Stands x allocations trainOk allocationsOk) =
+    same (trainSound line allocations positionDue 1 x) trainOk
+    && same (every 5 (λ (s : ℕ). allocationSound line (x ∷ []) s (at allocations s))) allocationsOk
 holds (Run bytes calls train segment) =
     isDone (loaded bytes .answer) && after bytes calls .history .on train && eqb (at (after bytes calls .area .allocations) segment) train
 holds (Both x y) = holds x && holds y
@@ -54,7 +74,7 @@ unfoldable pub allHold : List Row → Bool
 allHold [] = true
 allHold (x ∷ rows) = holds x && allHold rows
 
--- the values of S and B, the four edges of document 01, the edges of R-3, and two runs
+-- the values of S and B, the four edges of document 01, the edges of R-3, two runs, and the edges of R-4
 unfoldable pub table : List Row
 table =
     ValueS 10 5 5
@@ -76,7 +96,7 @@ table =
     -- "Limit 289 on segment 3 is 9"
     ∷ Load (file headerA (segments 6000 300 5500 290 8000 289 250 78)) 9 1
     -- "Position + speed equal to the length moves on to 0"
-    ∷ Move moving 1 2 0
+    ∷ Move (moving 1 5710 290 1 1 1) 1 2 0
     -- "`gmax` may be 1 to 2000": 2000 passes, 2001 is 4
     ∷ Both (Load (file (header 2000 1 2003001 199 142) segmentsFast) 0 0) (Load (file (header 2001 1 2003001 200 138) segmentsFast) 4 0)
     -- S(2000) in rule 5: with `b` 1, `d` 2,001,000 passes and 2,000,999 is 5
@@ -102,6 +122,31 @@ table =
     (Load (file (header 2001 1 2000999 238 97) (segments 4000001 2000 4000001 2000 4000001 2000 109 78)) 4 0)
     (Load (file (header 2000 1 2000999 237 101) (segments 4000001 2000 4000001 2000 4000001 2000 109 78)) 5 0)
     -- a run with a train on it: what the claim of whole runs asks for is met; so it is on a fast line
-    ∷ Run (file headerA segmentsA) (Enter 1 1 250 ∷ []) 1 1
-    ∷ Run (file headerFast segmentsFast) (Enter 1 1 2000 ∷ []) 1 1
+    ∷ Run (file headerA segmentsA) (Enter 1 (on 1 1) 250 ∷ []) 1 1
+    ∷ Run (file headerFast segmentsFast) (Enter 1 (on 1 20000) 2000 ∷ []) 1 1
+    -- "until the rear is at or past its end": length 1, the front at 0 of segment 3: segment 1 is still the train's; a decimetre on it is
+    -- freed
+    ∷ Both (Held (moving 1 5710 290 1 1 1) 1) (Held (moving 2 0 1 1 1 1) 0)
+    -- 6,000 long, the front at 5,999 and at 6,000
+    ∷ Both (Held (moving 2 5989 10 6000 1 1) 1) (Held (moving 2 5990 10 6000 1 1) 0)
+    -- longer than the route: not freed
+    ∷ Held (moving 2 7980 10 20000 1 1) 1
+    -- "a record with a train on whose length is outside that is unsound"
+    ∷ Both (Moves (moving 1 0 0 1 1 0) 0) (Moves (moving 1 0 0 0 1 0) 11)
+    ∷ Both (Moves (moving 1 0 0 20000 1 0) 0) (Moves (moving 1 0 0 20001 1 0) 11)
+    -- "all of these segments are allocated to that train": a segment under it is free; one behind its rear is still its own
+    ∷ Both (Moves (moving 2 5999 0 6000 0 1) 11) (Moves (moving 2 6000 0 6000 1 1) 11)
+    -- under a train 2,500 long, 500 into segment 4, are 2, 3 and 4: its rear is at the end of segment 1. All three, not the one before, and
+    -- none of them free
+    ∷ Both (Stands (fourth 500 2500) (0 ∷ 1 ∷ 1 ∷ 1 ∷ 0 ∷ []) true true) (Stands (fourth 500 2500) (1 ∷ 1 ∷ 1 ∷ 1 ∷ 0 ∷ []) true false)
+    ∷ Both (Stands (fourth 500 2500) (0 ∷ 0 ∷ 1 ∷ 1 ∷ 0 ∷ []) false true) (Stands (fourth 500 2500) (0 ∷ 1 ∷ 0 ∷ 1 ∷ 0 ∷ []) false true)
+    -- a decimetre longer, and segment 1 is under it too; as long as its way and longer, 1 to 4 are
+    ∷ Both (Stands (fourth 500 2501) (0 ∷ 1 ∷ 1 ∷ 1 ∷ 0 ∷ []) false true) (Stands (fourth 500 2501) (1 ∷ 1 ∷ 1 ∷ 1 ∷ 0 ∷ []) true true)
+    ∷ Both (Stands (fourth 500 3500) (1 ∷ 1 ∷ 1 ∷ 1 ∷ 0 ∷ []) true true) (Stands (fourth 500 20000) (1 ∷ 1 ∷ 1 ∷ 1 ∷ 0 ∷ []) true true)
+    -- its next may be its own
+    ∷ Stands (fourth 500 2500) (0 ∷ 1 ∷ 1 ∷ 1 ∷ 1 ∷ []) true true
+    -- "Turned away: 23, length outside the bounds, after 16"
+    ∷ Both (Enters (file headerA segmentsA) (on 1 1) 250 0) (Enters (file headerA segmentsA) (on 1 0) 250 23)
+    ∷ Both (Enters (file headerA segmentsA) (on 1 20000) 250 0) (Enters (file headerA segmentsA) (on 1 20001) 250 23)
+    ∷ Both (Enters (file headerA segmentsA) (on 3 0) 250 16) (Enters (file headerA segmentsA) (on 1 0) 301 23)
     ∷ []

@@ -37,8 +37,8 @@ pub fn start(file: &[u8]) -> ToldStart
     }
 }
 
-pub fn enter(area: Area, train: u16, route: u16, speed: u16) -> Change
-    ensures { λ r. ⌜ Answered area (Enter train route speed) (r .number) (changed area r) ⌝ }
+pub fn enter(area: Area, train: u16, route: u16, speed: u16, length: u16) -> Change
+    ensures { λ r. ⌜ Answered area (Enter train (record { route = route; length = length }) speed) (r .number) (changed area r) ⌝ }
 {
     let allocations = area.allocations;
     let trains = area.trains;
@@ -68,6 +68,7 @@ pub fn enter(area: Area, train: u16, route: u16, speed: u16) -> Change
         train,
         route,
         speed,
+        length,
         allocations,
         trains,
         due,

@@ -22,7 +22,7 @@ wishesOf items = take (min (itemOf items 6) 25) (drop 7 items)
 unfoldable pub callOf : List ℕ → Call
 callOf items =
     if eqb (itemOf items 0) 1
-    then Enter (itemOf items 1) (itemOf items 2) (itemOf items 3)
+    then Enter (itemOf items 1) (record { route = itemOf items 2; length = itemOf items 4 }) (itemOf items 3)
     else (if eqb (itemOf items 0) 2
     then Leave (itemOf items 1)
     else (if eqb (itemOf items 0) 3

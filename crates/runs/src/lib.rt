@@ -72,7 +72,8 @@ fn call(area: Area, items: &[u16]) -> Outcome
         1 => {
             let route = item_at(items, 2);
             let speed = item_at(items, 3);
-            area.enter(train, route, speed)
+            let length = item_at(items, 4);
+            area.enter(train, route, speed, length)
         }
         2 => area.leave(train),
         3 => area.speed(wishes_of(items)),

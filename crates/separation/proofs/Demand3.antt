@@ -25,7 +25,7 @@ use Rattle.separation.specs.Runs.{World, worldBy, next, afterFrom, begin
 use Rattle.separation.specs.Claim.{Separated, Demand3}
 use Rattle.separation.proofs.Kept.{Kept, on-same, kept-sound}
 use Rattle.separation.proofs.Going.{KeptIn, Went, went-called}
-use Rattle.separation.proofs.Fields.{is-apart, is-allocated, is-slow, is-only, is-stopping, has-own, here, is-position}
+use Rattle.separation.proofs.Fields.{is-apart, is-allocated, is-slow, is-only, is-stopping, has-own, here, is-position, route-of, length-of, on-iff}
 
 -- what holds after every list of calls
 pub record Good (T : Tables) (w : World) : Type 0 where
@@ -46,7 +46,7 @@ module _ (T : Tables) (M : Meets T) where
               segments = refl;
               numbers = refl;
               offs = λ t o. nth-replicate off 24 t;
-              routes = λ t o. not-both false o refl;
+              journeys = λ t o. not-both false o refl;
               ons = λ t o. not-both false o refl;
               holders = λ s some. absurd (omega (arith, nth-replicate {A = ℕ} 0 62 s));
             };
@@ -88,7 +88,8 @@ module _ (T : Tables) (M : Meets T) where
         own = has-own T K w k;
         tables = g .tables;
         trainsOn = on-same T (w .area .allocations) (w .area .trains) (w .area .due) (w .history) k;
-        routes = k .routes;
+        routes = route-of T K w k;
+        lengths = length-of T K w k;
         places = here T K w k;
         positions = is-position T K w k;
         isSound = kept-sound (w .area .tables) (w .area .allocations) (w .area .trains) (w .area .due) (w .history) (g .kept) (rw (g .tables) M);

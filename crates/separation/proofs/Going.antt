@@ -12,6 +12,7 @@ use Rattle.lists.proofs.Cases.{by-test, not-both, facts}
 use Rattle.lists.proofs.Refusals.{passed, absent, apart, first-named, first-none, first-number, placeless, first-placeless}
 use Rattle.tables.specs.Facts.{Meets}
 use Rattle.tables.proofs.Consistency.{consistent}
+use Rattle.trains.specs.Train.{longestTrain, Journey}
 use Rattle.trains.specs.EnterLeave.{firstSegment}
 use Rattle.area.specs.declared.Area.{Area}
 use Rattle.area.specs.declared.Outcome.{Outcome}
@@ -106,22 +107,23 @@ module _ (a : Area) (h : History) (k : KeptIn a h) (M : Meets (a .tables)) where
       went (Leave t) (leaveTests a t) (afterLeave a t) refl refl refl refl
       (λ e. keep-leave (a .tables) (consistent (a .tables) M) (a .allocations) (a .trains) h k t)
 
-  went-enter : (t r v : ℕ) → Went a h (Enter t r v) (enterCall a t r v)
+  went-enter : (t : ℕ) (j : Journey) (v : ℕ) → Went a h (Enter t j v) (enterCall a t j v)
   unfolding enterCall afterEnter noted
-  went-enter t r v =
-      went (Enter t r v) (enterTests a t r v) (afterEnter a t r v) refl refl refl refl
+  went-enter t j v =
+      went (Enter t j v) (enterTests a t j v) (afterEnter a t j v) refl refl refl refl
       (λ e.
-      let free = ltb-false 0 (at (a .allocations) (firstSegment (a .tables) r)) (passed 18 (enterTests a t r v) e) in
-      keep-enter (a .tables) (consistent (a .tables) M) (a .allocations) (a .trains) h k t r v
-      (within 24 t (passed 13 (enterTests a t r v) e))
-      (passed 14 (enterTests a t r v) e)
-      (within (a .tables .routes) r (passed 16 (enterTests a t r v) e))
+      let free = ltb-false 0 (at (a .allocations) (firstSegment (a .tables) (j .route))) (passed 18 (enterTests a t j v) e) in
+      keep-enter (a .tables) (consistent (a .tables) M) (a .allocations) (a .trains) h k t j v
+      (within 24 t (passed 13 (enterTests a t j v) e))
+      (passed 14 (enterTests a t j v) e)
+      (within (a .tables .routes) (j .route) (passed 16 (enterTests a t j v) e))
+      (within longestTrain (j .length) (passed 23 (enterTests a t j v) e))
       (omega arith)
-      (ltb-false (at (a .tables .limits) (firstSegment (a .tables) r)) v (passed 19 (enterTests a t r v) e)))
+      (ltb-false (at (a .tables .limits) (firstSegment (a .tables) (j .route))) v (passed 19 (enterTests a t j v) e)))
 
   pub went-called : (c : Call) → Went a h c (called a c)
   unfolding called
-  went-called (Enter t r v) = went-enter t r v
+  went-called (Enter t j v) = went-enter t j v
   went-called (Leave t) = went-leave t
   went-called (Speed wishes) = went-speed wishes
   went-called Request = went-request

@@ -15,12 +15,12 @@ use Rattle.tables.specs.declared.Tables.{Tables}
 use Rattle.tables.specs.Facts.{Consistent, IsSegment}
 use Rattle.trains.specs.declared.Train.{Train}
 use Rattle.trains.specs.Due.{speedDue, requestDue, grantDue, positionDue}
-use Rattle.trains.specs.Train.{off, entered, trainAt, isOn, ownIn, ownOf, occupied, ahead}
+use Rattle.trains.specs.Train.{longestTrain, Journey, journeyOf, off, entered, trainAt, isOn, ownIn, ownOf, occupied, ahead}
 use Rattle.trains.specs.Cycle.{sped, requested, movesIn, moved, movedIn, released, freed}
 use Rattle.trains.specs.Grant.{granted, countAfter, calmed}
 use Rattle.trains.specs.GrantFacts.{AsksFor}
 use Rattle.trains.specs.EnterLeave.{firstSegment, takenBy, freedBy, becomes}
-use Rattle.trains.proofs.Segments.{own-occupied, occupied-own, wanted-ahead}
+use Rattle.trains.proofs.Segments.{occupied-beneath, own-occupied, wanted-ahead}
 use Rattle.trains.proofs.Safety.{TrainOk, frame, speed-ok, request-ok, grant-ok, position-ok, enter-ok}
 use Rattle.trains.proofs.Grant.{grant-keeps, grant-asked}
 use Rattle.trains.proofs.Calls.{sped-off, left-freed, others-stay, leaver-freed, others-kept, named-becomes, others-same}
@@ -57,17 +57,17 @@ module _ (T : Tables) (K : Consistent T) (A : List ℕ) (X : List Train) (h : Hi
     step-keeps :
         due′ ≤ positionDue → length A′ ≡ 62
         → ((t : ℕ) → f t off ≡ off)
-        → ((t : ℕ) (x : Train) → f t x .route ≡ x .route)
+        → ((t : ℕ) (x : Train) → journeyOf (f t x) ≡ journeyOf x)
         → ((t : ℕ) → h .on t ≡ true → TrainOk T due′ (at A′) t (f t (trainAt X t)) (way′ t) (granted′ t))
         → ((s : ℕ) → 1 ≤ at A′ s → h .on (at A′ s) ≡ true)
-        → Kept T A′ (each f X) due′ (record { on = h .on; route = h .route; way = way′; granted = granted′ })
-    step-keeps d long offs routes ons holders =
+        → Kept T A′ (each f X) due′ (record { on = h .on; journey = h .journey; way = way′; granted = granted′ })
+    step-keeps d long offs journeys ons holders =
         record {
           dueOk = d;
           segments = long;
           numbers = length-each f X ∙ k .numbers;
           offs = λ t o. look t ∙ (ap (f t) (k .offs t o) ∙ offs t);
-          routes = λ t o. ap (λ (x : Train). x .route) (look t) ∙ (routes t (trainAt X t) ∙ k .routes t o);
+          journeys = λ t o. ap journeyOf (look t) ∙ (journeys t (trainAt X t) ∙ k .journeys t o);
           ons = λ t o. rw (look t) (ons t o);
           holders = holders;
         }
@@ -81,7 +81,7 @@ module _ (T : Tables) (K : Consistent T) (A : List ℕ) (X : List Train) (h : Hi
     unfolding sped
     keep-speed =
         step-keeps k (sped T A wishes) A requestDue (h .way) (h .granted) (omega arith) (k .segments) (λ t. sped-off T A wishes t off refl)
-        (λ t x. if-case (λ (y : Train). y .route ≡ x .route) (isOn x) (λ e. refl) (λ e. refl))
+        (λ t x. if-case (λ (y : Train). journeyOf y ≡ journeyOf x) (isOn x) (λ e. refl) (λ e. refl))
         (λ t o. rw (on-same T A X speedDue h k t ∙ o) (speed-ok T K (at A) t (trainAt X t) (h .way t) (h .granted t) (k .ons t o) (at wishes t)))
         (k .holders)
 
@@ -91,7 +91,7 @@ module _ (T : Tables) (K : Consistent T) (A : List ℕ) (X : List Train) (h : Hi
     unfolding requested
     keep-request =
         step-keeps k (requested T A) A grantDue (h .way) (h .granted) (omega arith) (k .segments) (λ t. refl)
-        (λ t x. if-case (λ (y : Train). y .route ≡ x .route) (isOn x) (λ e. refl) (λ e. refl))
+        (λ t x. if-case (λ (y : Train). journeyOf y ≡ journeyOf x) (isOn x) (λ e. refl) (λ e. refl))
         (λ t o. rw (on-same T A X requestDue h k t ∙ o) (request-ok T K (at A) t (trainAt X t) (h .way t) (h .granted t) (k .ons t o)))
         (k .holders)
 
@@ -173,7 +173,7 @@ module _ (T : Tables) (K : Consistent T) (A : List ℕ) (X : List Train) (h : Hi
     unfolding movesIn movedIn
     keep-position =
         step-keeps k (λ (t : ℕ). moved T) A″ speedDue (atPosition h X .way) (h .granted) (omega arith) (length-each (freed T X) A ∙ k .segments) (λ t. refl)
-        (λ t x. if-case (λ (y : Train). y .route ≡ x .route) (movesIn (at (T .lengths) (ownOf T x)) x) (λ e. refl) (λ e. refl))
+        (λ t x. if-case (λ (y : Train). journeyOf y ≡ journeyOf x) (movesIn (at (T .lengths) (ownOf T x)) x) (λ e. refl) (λ e. refl))
         (λ t o.
         let some = number-some t X (route-some T A X positionDue h k t o) in
         position-ok T K (at A) (at A″) t (trainAt X t) (h .way t) (h .granted t) (k .ons t o) (λ s e r. kept-of s t e r) (λ s e. of-kept s t some e))
@@ -214,7 +214,7 @@ module _ (T : Tables) (K : Consistent T) (A : List ℕ) (X : List Train) (h : Hi
               λ u o.
               cases (eq-or-ne u t) (λ e. left-look u ∙ named-becomes t off u (trainAt X u) e)
               (λ n. left-look u ∙ (others-same t off u (trainAt X u) n ∙ k .offs u (sym (put-other (h .on) t false u n) ∙ o)));
-          routes = λ u o. let p = was u o in rw (left-look u, others-same t off u (trainAt X u) (p .0)) (k .routes u (p .1));
+          journeys = λ u o. let p = was u o in rw (left-look u, others-same t off u (trainAt X u) (p .0)) (k .journeys u (p .1));
           ons =
               λ u o.
               let p = was u o in
@@ -233,21 +233,22 @@ module _ (T : Tables) (K : Consistent T) (A : List ℕ) (X : List Train) (h : Hi
             cases (eq-or-ne u t) (λ e. not-both (put (h .on) t false u) o (put-same (h .on) t false u e))
             (λ n. (n, sym (put-other (h .on) t false u n) ∙ o))
 
-  -- ---- enter: train t, which was off, stands at the start of route r, whose first segment was free
+  -- ---- enter: train t, which was off, stands at the start of its route, whose first segment was free
   module _
-      {due : ℕ} (k : Kept T A X due h) (t r v : ℕ) (isTrain : (1 ≤ t) × (t ≤ 24)) (wasOff : isOn (trainAt X t) ≡ false)
-      (isRoute : (1 ≤ r) × (r ≤ T .routes)) (free : at A (firstSegment T r) ≡ 0) (slow : v ≤ at (T .limits) (firstSegment T r)) where
+      {due : ℕ} (k : Kept T A X due h) (t : ℕ) (j : Journey) (v : ℕ) (isTrain : (1 ≤ t) × (t ≤ 24)) (wasOff : isOn (trainAt X t) ≡ false)
+      (isRoute : (1 ≤ j .route) × (j .route ≤ T .routes)) (isLength : (1 ≤ j .length) × (j .length ≤ longestTrain))
+      (free : at A (firstSegment T (j .route)) ≡ 0) (slow : v ≤ at (T .limits) (firstSegment T (j .route))) where
     abbrev first : ℕ
-    first = firstSegment T r
+    first = firstSegment T (j .route)
 
     abbrev takenA : List ℕ
     takenA = each (takenBy first t) A
 
     abbrev takenX : List Train
-    takenX = each (becomes t (entered r v)) X
+    takenX = each (becomes t (entered j v)) X
 
     first-is : IsSegment T first
-    first-is = K .placed r 1 (isRoute .0) (isRoute .1) (omega arith) (K .counted r (isRoute .0) (isRoute .1) .0)
+    first-is = K .placed (j .route) 1 (isRoute .0) (isRoute .1) (omega arith) (K .counted (j .route) (isRoute .0) (isRoute .1) .0)
 
     was-off : h .on t ≡ false
     was-off = sym (on-same T A X due h k t) ∙ wasOff
@@ -256,8 +257,8 @@ module _ (T : Tables) (K : Consistent T) (A : List ℕ) (X : List Train) (h : Hi
     none-held : (s : ℕ) → at A s ≡ t → ⊥
     none-held s e = let some : 1 ≤ at A s = omega (arith, isTrain .0) in not-both (h .on t) (rw e at (k .holders s some)) was-off
 
-    enter-look : (u : ℕ) → trainAt takenX u ≡ becomes t (entered r v) u (trainAt X u)
-    enter-look u = nth-stored off X t (entered r v) (isTrain .0) (omega (arith, isTrain .1, k .numbers)) u
+    enter-look : (u : ℕ) → trainAt takenX u ≡ becomes t (entered j v) u (trainAt X u)
+    enter-look u = nth-stored off X t (entered j v) (isTrain .0) (omega (arith, isTrain .1, k .numbers)) u
 
     take-look : (s : ℕ) → at takenA s ≡ takenBy first t s (at A s)
     take-look s = nth-stored 0 A first t (first-is .from) (omega (arith, first-is .to, K .segments .1, k .segments)) s
@@ -272,39 +273,41 @@ module _ (T : Tables) (K : Consistent T) (A : List ℕ) (X : List Train) (h : Hi
         cases (eq-or-ne s first) (λ z. absurd (n (sym (rw (eq-eqb s first z) at q)))) (λ z. rw (ne-eqb s first z) at q)
 
     -- what is under it is the route's first segment, and that alone is allocated to it
-    first-under : (s : ℕ) → occupied T (entered r v) s ≡ true → at takenA s ≡ t
-    unfolding ownIn
-    first-under s o = take-look s ∙ rw (eq-eqb s first (sym (occupied-own T (entered r v) o)))
+    first-under : (s : ℕ) → occupied T (entered j v) s ≡ true → at takenA s ≡ t
+    first-under s o =
+        let b = occupied-beneath T (entered j v) o in
+        let e : b .place ≡ 1 = omega (arith, b .low, b .high) in
+        take-look s ∙ rw (eq-eqb s first (sym (rw e at (b .segment))))
 
-    under-first : (s : ℕ) → at takenA s ≡ t → occupied T (entered r v) s ≡ true
+    under-first : (s : ℕ) → at takenA s ≡ t → occupied T (entered j v) s ≡ true
     unfolding ownIn
     under-first s e =
         let q : takenBy first t s (at A s) ≡ t = sym (take-look s) ∙ e in
-        cases (eq-or-ne s first) (λ z. own-occupied T (entered r v) (sym z)) (λ z. absurd (none-held s (rw (ne-eqb s first z) at q)))
+        cases (eq-or-ne s first) (λ z. own-occupied T (entered j v) (omega arith) (sym z)) (λ z. absurd (none-held s (rw (ne-eqb s first z) at q)))
 
-    itself : TrainOk T due (at takenA) t (entered r v) 0 (λ (s : ℕ). false)
+    itself : TrainOk T due (at takenA) t (entered j v) 0 (λ (s : ℕ). false)
     unfolding ownIn
-    itself = enter-ok T K due (at takenA) t r v (λ (s : ℕ). false) (isRoute .0) (isRoute .1) slow first-under under-first
+    itself = enter-ok T K due (at takenA) t j v (λ (s : ℕ). false) (isRoute .0) (isRoute .1) isLength slow first-under under-first
 
     another : (u : ℕ) → (u ≡ t → ⊥) → h .on u ≡ true → TrainOk T due (at takenA) u (trainAt X u) (h .way u) (h .granted u)
     another u n o =
         let some = number-some u X (route-some T A X due h k u o) in
         frame T K (k .ons u o) (λ s e. others-held s u some e) (λ s e. others-still s u n e) (λ s e. e)
 
-    pub keep-enter : Kept T takenA takenX due (atEnter h t r)
+    pub keep-enter : Kept T takenA takenX due (atEnter h t j)
     keep-enter =
         record {
           dueOk = k .dueOk;
           segments = length-each (takenBy first t) A ∙ k .segments;
-          numbers = length-each (becomes t (entered r v)) X ∙ k .numbers;
+          numbers = length-each (becomes t (entered j v)) X ∙ k .numbers;
           offs =
               λ u o.
               cases (eq-or-ne u t) (λ e. not-both (put (h .on) t true u) (put-same (h .on) t true u e) o)
               (λ n. rw (enter-look u, ne-eqb u t n) (k .offs u (rw (ne-eqb u t n) at o)));
-          routes =
+          journeys =
               λ u o.
               cases (eq-or-ne u t) (λ e. rw (enter-look u, eq-eqb u t e))
-              (λ n. rw (enter-look u, ne-eqb u t n) (k .routes u (rw (ne-eqb u t n) at o)));
+              (λ n. rw (enter-look u, ne-eqb u t n) (k .journeys u (rw (ne-eqb u t n) at o)));
           ons =
               λ u o.
               cases (eq-or-ne u t) (λ e. rw (enter-look u, eq-eqb u t e) (rw e itself))

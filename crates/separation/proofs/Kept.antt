@@ -14,10 +14,10 @@ use Rattle.tables.specs.Facts.{Meets}
 use Rattle.tables.proofs.Consistency.{consistent}
 use Rattle.trains.specs.declared.Train.{Train}
 use Rattle.trains.specs.Due.{positionDue}
-use Rattle.trains.specs.Train.{off, trainAt, isOn}
+use Rattle.trains.specs.Train.{Journey, journeyOf, off, trainAt, isOn}
 use Rattle.trains.specs.SoundFacts.{SoundTrain, SoundAllocation}
-use Rattle.trains.proofs.Segments.{occupied-own, ahead-next}
-use Rattle.trains.proofs.Safety.{TrainOk, own-is, next-is}
+use Rattle.trains.proofs.Segments.{occupied-iff, ahead-iff, ahead-next}
+use Rattle.trains.proofs.Safety.{TrainOk, under-is, next-is}
 use Rattle.area.specs.Sound.{sound}
 use Rattle.area.proofs.Soundness.{sound-iff}
 use Rattle.separation.specs.Runs.{History}
@@ -28,13 +28,20 @@ pub record Kept (T : Tables) (A : List ℕ) (X : List Train) (due : ℕ) (h : Hi
   pub segments : length A ≡ 62
   pub numbers : length X ≡ 24
   pub offs : (t : ℕ) → h .on t ≡ false → trainAt X t ≡ off
-  pub routes : (t : ℕ) → h .on t ≡ true → trainAt X t .route ≡ h .route t
+  pub journeys : (t : ℕ) → h .on t ≡ true → journeyOf (trainAt X t) ≡ h .journey t
   pub ons : (t : ℕ) → h .on t ≡ true → TrainOk T due (at A) t (trainAt X t) (h .way t) (h .granted t)
   pub holders : (s : ℕ) → 1 ≤ at A s → h .on (at A s) ≡ true
 
 module _ (T : Tables) (A : List ℕ) (X : List Train) (due : ℕ) (h : History) (k : Kept T A X due h) where
   pub route-some : (t : ℕ) → h .on t ≡ true → 1 ≤ trainAt X t .route
   route-some t o = k .ons t o .onRoute .routeLow
+
+  -- route and length are those of the list
+  pub routes : (t : ℕ) → h .on t ≡ true → trainAt X t .route ≡ h .journey t .route
+  routes t o = ap (λ (j : Journey). j .route) (k .journeys t o)
+
+  pub lengths : (t : ℕ) → h .on t ≡ true → trainAt X t .length ≡ h .journey t .length
+  lengths t o = ap (λ (j : Journey). j .length) (k .journeys t o)
 
   -- the record's trains on are those of the list
   pub on-same : (t : ℕ) → isOn (trainAt X t) ≡ h .on t
@@ -57,7 +64,8 @@ module _ (T : Tables) (A : List ℕ) (X : List Train) (due : ℕ) (h : History) 
         place = (ok .onRoute .placeLow, ok .onRoute .placeHigh);
         position = ok .inside;
         speed = ok .slow;
-        own = ok .holds;
+        length = ok .long;
+        under = λ s u. ok .holds s (occupied-iff T (trainAt X t) (ok .inside) s .1 u);
         stops = ok .stops;
         next = ok .nextSlow;
         asks = ok .asksWell;
@@ -73,15 +81,16 @@ module _ (T : Tables) (A : List ℕ) (X : List Train) (due : ℕ) (h : History) 
         record {
           segment =
               cases (ok .only s refl)
-              (λ e. rw (occupied-own T x e) at (own-is T K x (ok .onRoute) .to))
+              (λ e. under-is T K x (ok .onRoute) e .to)
               (λ e. let n = ahead-next T x (e .0) in rw (n .1) at (next-is T K x (ok .onRoute) (omega (arith, n .0, n .1)) .segment .to));
           on = ok .onRoute .routeLow;
-          whose = cases (ok .only s refl) (λ e. inl e) (λ e. inr (e .0));
+          whose =
+              cases (ok .only s refl) (λ e. inl (occupied-iff T x (ok .inside) s .0 e)) (λ e. inr (ahead-iff T x s (ahead-next T x (e .0) .0) .0 (e .0)));
         }
 
     pub kept-sound : sound (record { tables = T; allocations = A; trains = X; due = due }) ≡ true
     kept-sound =
-        sound-iff (record { tables = T; allocations = A; trains = X; due = due }) .1
+        sound-iff (record { tables = T; allocations = A; trains = X; due = due }) (k .numbers) .1
         (record {
           tables = M;
           due = k .dueOk;

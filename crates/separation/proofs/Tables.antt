@@ -14,7 +14,7 @@ outcome-tables tests new a e = if-case (λ (x : Area). x .tables ≡ a .tables) 
 
 pub called-tables : (a : Area) (c : Call) → called a c .area .tables ≡ a .tables
 unfolding called enterCall afterEnter leaveCall afterLeave speedCall afterSpeed requestCall afterRequest grantCall afterGrant positionCall afterPosition
-called-tables a (Enter t r v) = outcome-tables (enterTests a t r v) (afterEnter a t r v) a refl
+called-tables a (Enter t j v) = outcome-tables (enterTests a t j v) (afterEnter a t j v) a refl
 called-tables a (Leave t) = outcome-tables (leaveTests a t) (afterLeave a t) a refl
 called-tables a (Speed wishes) = outcome-tables (speedTests a wishes) (afterSpeed a wishes) a refl
 called-tables a Request = outcome-tables (stepTests requestDue a) (afterRequest a) a refl

@@ -17,7 +17,7 @@ use Rattle.tables.specs.Tables.{countOf}
 use Rattle.tables.specs.Facts.{Meets}
 use Rattle.decoding.specs.Decoding.{decoded}
 use Rattle.trains.specs.declared.Train.{Train}
-use Rattle.trains.specs.Train.{mostTrains, off, trainAt, isOn}
+use Rattle.trains.specs.Train.{mostTrains, journeyOf, off, trainAt, isOn}
 use Rattle.trains.specs.Way.{startAfter}
 use Rattle.answers.specs.declared.Answer.{Answer}
 use Rattle.area.specs.declared.Outcome.{Outcome}
@@ -26,7 +26,8 @@ use Rattle.loading.specs.Load.{fresh, loaded}
 use Rattle.separation.specs.Calls.{Call, Enter, Leave, Speed, Request, Grant, Position, called}
 use Rattle.separation.specs.Runs.{World, noted, isDone, worldBy, next, afterFrom, begin, after}
 use Rattle.separation.specs.Ways.{WayTrain, offWay, WayWorld, wayTrainAt, placeOfWay, shownTrain, shown, wayAfter, wayTrainBy, wayWorldBy, nextByWays, byWaysFrom, byWays}
-use Rattle.separation.proofs.Places.{start-mono, one-place}
+use Rattle.trains.proofs.Rear.{start-mono}
+use Rattle.separation.proofs.Places.{one-place}
 use Rattle.separation.proofs.Demand3.{Good, good-fresh, good-next, good-separated, file-meets, file-fresh}
 
 -- the place of a way is the one where it lies
@@ -46,7 +47,7 @@ shown-by :
     (T U : Tables) (x : Train) (way′ r way p : ℕ) → U ≡ T → isOn x ≡ true → way′ ≡ way → x .route ≡ r
     → 1 ≤ p → p ≤ countOf (T .routebytes) r → startAfter T r (p - 1) ≤ way → way < startAfter T r p
     → x .place ≡ p → x .position ≡ way - startAfter T r (p - 1)
-    → shownTrain U (record { route = x .route; way = way′; speed = x .speed; asks = x .asks; count = x .count }) ≡ x
+    → shownTrain U (record { journey = journeyOf x; way = way′; speed = x .speed; asks = x .asks; count = x .count }) ≡ x
 unfolding shownTrain
 shown-by T U x way′ r way p same on e f low high from to place position =
     let q : placeOfWay U (x .route) way′ ≡ x .place = rw (same, e, f) (place-of-way T r way p low high from to) ∙ sym place in
@@ -64,7 +65,7 @@ module _ (T : Tables) (M : Meets T) where
   module _ (i : WayWorld) (w : World) (r : Alike i w) (c : Call) (o : Outcome) where
     way-done : (d : Call) (t : ℕ) → 1 ≤ t → t ≤ mostTrains → wayAfter d t (wayTrainAt i t) ≡ noted (w .history) d (w .area) (o .area) .way t
     unfolding noted
-    way-done (Enter u p v) t low high = ap (λ (n : ℕ). if eqb t u then 0 else n) (r .ways t low high)
+    way-done (Enter u j v) t low high = ap (λ (n : ℕ). if eqb t u then 0 else n) (r .ways t low high)
     way-done (Leave u) t low high = r .ways t low high
     way-done (Speed wishes) t low high = r .ways t low high
     way-done Request t low high = r .ways t low high
@@ -87,7 +88,7 @@ module _ (T : Tables) (M : Meets T) where
         let on : v .on t ≡ true = sym (s .trainsOn t) ∙ e in
         let h = s .own t on in
         let q = h .own in
-        shown-by T (o .area .tables) x (wayTrainBy i c o t .way) (v .route t) (v .way t) (h .place) (s .tables) e (way-same t low high) (s .routes t on)
+        shown-by T (o .area .tables) x (wayTrainBy i c o t .way) (v .journey t .route) (v .way t) (h .place) (s .tables) e (way-same t low high) (s .routes t on)
         (q .place .0) (q .place .1) (q .starts) (q .ends) (s .places t (h .place) q) (s .positions t (h .place) q))
         (λ e. rw e (sym (g .kept .offs t (sym (s .trainsOn t) ∙ e))))
 

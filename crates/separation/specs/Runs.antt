@@ -1,11 +1,11 @@
--- A list of calls worked through (document 01, "Whole runs").
+-- A list of calls worked through (document 01, "Whole runs"; document 02, R-4).
 use Prim.Native.Nat.{ℕ, _+_}
 use mathlib.Core.Bool.{Bool, true, false, not, _&&_, _||_}
 use mathlib.Core.List.{List, [], _∷_, _++_}
 use lib.Dec.{eqb}
 use Rattle.lists.specs.Words.{if_then_else_, at}
 use Rattle.trains.specs.declared.Train.{Train}
-use Rattle.trains.specs.Train.{trainAt}
+use Rattle.trains.specs.Train.{Journey, journeyOf, off, trainAt}
 use Rattle.answers.specs.declared.Answer.{Answer}
 use Rattle.area.specs.declared.Area.{Area}
 use Rattle.area.specs.declared.Outcome.{Outcome}
@@ -13,12 +13,13 @@ use Rattle.answers.specs.Answers.{numberOf}
 use Rattle.loading.specs.Load.{loaded}
 use Rattle.separation.specs.Calls.{Call, Enter, Leave, Speed, Request, Grant, Position, called}
 
--- what the list tells of each train by its number; nothing of it is read off the record's trains on, routes, places or positions
+-- what the list tells of each train by its number; nothing of it is read off the record's trains on, routes, lengths, places or
+-- positions
 pub record History : Type 0 where
   -- it is on the area: from an enter of it answered done until the next leave of it answered done
   pub on : ℕ → Bool
-  -- the route that this enter named
-  pub route : ℕ → ℕ
+  -- the route and the length that this enter named
+  pub journey : ℕ → Journey
   -- its way: 0 at that enter, and more by its speed at each position step answered done
   pub way : ℕ → ℕ
   -- segments by number: a grant step answered done since that enter allocated it to the train
@@ -34,31 +35,31 @@ pub record World : Type 0 where
 abbrev pub put : {A : Type 0} → (ℕ → A) → ℕ → A → ℕ → A
 put f n x k = if eqb k n then x else f k
 
--- an enter of train t on route r
-abbrev pub atEnter : History → (t r : ℕ) → History
-atEnter h t r =
-    record { on = put (h .on) t true; route = put (h .route) t r; way = put (h .way) t 0; granted = put (h .granted) t (λ (s : ℕ). false) }
+-- an enter of train t on journey j
+abbrev pub atEnter : History → ℕ → Journey → History
+atEnter h t j =
+    record { on = put (h .on) t true; journey = put (h .journey) t j; way = put (h .way) t 0; granted = put (h .granted) t (λ (s : ℕ). false) }
 
 abbrev pub atLeave : History → (t : ℕ) → History
-atLeave h t = record { on = put (h .on) t false; route = h .route; way = h .way; granted = h .granted }
+atLeave h t = record { on = put (h .on) t false; journey = h .journey; way = h .way; granted = h .granted }
 
 -- a grant step, by the allocations before (A) and after it (A′); "allocated it to the train": changed the holder to this train
 abbrev pub atGrant : History → (A A′ : List ℕ) → History
 atGrant h A A′ =
     record {
       on = h .on;
-      route = h .route;
+      journey = h .journey;
       way = h .way;
       granted = λ (t s : ℕ). h .granted t s || (not (eqb (at A s) t) && eqb (at A′ s) t);
     }
 
 -- a position step of the trains X
 abbrev pub atPosition : History → (X : List Train) → History
-atPosition h X = record { on = h .on; route = h .route; way = λ (t : ℕ). h .way t + trainAt X t .speed; granted = h .granted }
+atPosition h X = record { on = h .on; journey = h .journey; way = λ (t : ℕ). h .way t + trainAt X t .speed; granted = h .granted }
 
 -- what a call answered done adds; a is the record that it was handed, b the one that it handed back
 unfoldable pub noted : History → Call → (a b : Area) → History
-noted h (Enter t r v) a b = atEnter h t r
+noted h (Enter t j v) a b = atEnter h t j
 noted h (Leave t) a b = atLeave h t
 noted h (Speed wishes) a b = h
 noted h Request a b = h
@@ -86,7 +87,8 @@ afterFrom w (c ∷ calls) = afterFrom (next w c) calls
 
 -- before the first call
 abbrev pub noHistory : History
-noHistory = record { on = λ (t : ℕ). false; route = λ (t : ℕ). 0; way = λ (t : ℕ). 0; granted = λ (t s : ℕ). false }
+noHistory =
+    record { on = λ (t : ℕ). false; journey = λ (t : ℕ). journeyOf off; way = λ (t : ℕ). 0; granted = λ (t s : ℕ). false }
 
 unfoldable pub begin : Area → World
 begin a = record { area = a; history = noHistory; answers = [] }

@@ -1,5 +1,5 @@
--- Where a train is, by its way (document 01, "Whole runs"). T are the tables of the file, t is a train, s a segment, p a place of the
--- train's route, counted from 1.
+-- Where a train is, by its way (document 01, "Whole runs") and its length (document 02, R-4). T are the tables of the file, t is a train,
+-- s a segment, p a place of the train's route, counted from 1.
 use Prim.Native.Nat.{ℕ, zero, suc, _+_, _-_, _≤_, _<_}
 use mathlib.Core.Path.{_≡_}
 use mathlib.Core.Bool.{true}
@@ -18,7 +18,10 @@ module _ (T : Tables) (w : World) where
   OnArea t = w .history .on t ≡ true
 
   abbrev pub routeOf : (t : ℕ) → ℕ
-  routeOf t = w .history .route t
+  routeOf t = w .history .journey t .route
+
+  abbrev pub lengthOf : (t : ℕ) → ℕ
+  lengthOf t = w .history .journey t .length
 
   abbrev pub wayOf : (t : ℕ) → ℕ
   wayOf t = w .history .way t
@@ -40,10 +43,18 @@ module _ (T : Tables) (w : World) where
     pub own : OwnPlace t place
     pub only : (p : ℕ) → OwnPlace t p → p ≡ place
 
-  -- it is on segment s
+  -- the segment at place p of its route is under it: its front has arrived there, and its rear is neither at that segment's end nor past
+  -- it. The rear is at way - length, said with + since it may lie before the route's start
+  pub record Under (t p : ℕ) : Type 0 where
+    pub on : OnArea t
+    pub place : (1 ≤ p) × (p ≤ countOf (T .routebytes) (routeOf t))
+    pub arrived : startAfter T (routeOf t) (p - 1) ≤ wayOf t
+    pub rear : wayOf t < startAfter T (routeOf t) p + lengthOf t
+
+  -- "'On a segment' now means that it is under the train": train t is on segment s
   pub record OnSegment (t s : ℕ) : Type 0 where
     pub place : ℕ
-    pub own : OwnPlace t place
+    pub under : Under t place
     pub segment : segmentOn t place ≡ s
 
   -- segment s was granted next to it: s is its next, and a grant step answered done since its enter allocated s to it

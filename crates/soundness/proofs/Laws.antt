@@ -1,5 +1,5 @@
 -- What a train at its place says of its speed: it stops within the end distance. The tests of all trains by the list of where they
--- stand. An allocation by its holder's slot.
+-- stand.
 use Prim.Native.Nat.{ℕ, _-_, _≤_}
 use mathlib.Core.Path.{_≡_, ap, _∙_}
 use mathlib.Core.Bool.{true, _&&_, _||_, and-false}
@@ -42,7 +42,7 @@ limit-stops T ok held t x on h =
 
 -- the list of where trains stand has each train's own spot: what the tests ask holds of it, and they are the tests of the record
 module _ (T : Tables) (A : List ℕ) (trains : List Train) {spots : List Spot} (long : length trains ≡ mostTrains) (e : spots ≡ spotsOf T A trains) where
-  spot-at : (t : ℕ) → 1 ≤ t → t ≤ mostTrains → spotAt spots t ≡ standsOf T (at A) t (trainAt trains t)
+  pub spot-at : (t : ℕ) → 1 ≤ t → t ≤ mostTrains → spotAt spots t ≡ standsOf T (at A) t (trainAt trains t)
   spot-at t low high = ap (λ (l : List Spot). spotAt l t) e ∙ nth-each-in off noSpot (standsOf T (at A)) trains t low (omega arith)
 
   pub stopping : Consistent T → Stopping (T .routes) (T .braking) (T .margin) spots trains
@@ -72,13 +72,3 @@ module _ (T : Tables) (A : List ℕ) (trains : List Train) {spots : List Spot} (
       → every mostTrains (λ (t : ℕ). standsSound (T .routes) (T .braking) due (spotAt spots t) (trainAt trains t))
       ≡ every mostTrains (λ (t : ℕ). trainSound T A due t (trainAt trains t))
   tests-same due = every-same mostTrains _ _ (test-at due)
-
--- a segment's allocation, with the train of the slot k, which is the holder's where there is one
-pub holder-sound :
-    (N : ℕ) (routebytes : List ℕ) (trains : List Train) (s h k : ℕ) → length trains ≡ mostTrains → (1 ≤ h → h ≤ mostTrains → k ≡ h - 1)
-    → (eqb h 0 || (leb h mostTrains && holderSound N routebytes (getD trains k off) s)) ≡ (eqb h 0 || holderSound N routebytes (trainAt trains h) s)
-holder-sound N routebytes trains s h k long slot =
-    cases (eq-or-ne h 0) (λ z. rw (eq-eqb h 0 z))
-    (λ some.
-    cases (lt-or-le mostTrains h) (λ out. rw (lt-leb h mostTrains out, nth-out off trains h (omega arith), and-false))
-    (λ one. rw (le-leb h mostTrains one, nth-in off trains h (omega arith), slot (omega arith) one)))

@@ -1,22 +1,30 @@
 // The conditions of a sound record on trains and allocations. Of a record handed in nothing is known but what is tested first.
 ghost use mathlib.Core.Path.{_≡_};
-ghost use mathlib.Core.Bool.{true, _&&_, _||_};
-ghost use Prim.Native.Nat.{_≤_, _<_, _-_};
+ghost use mathlib.Core.Bool.{true, _&&_};
+ghost use Prim.Native.Nat.{ℕ, _≤_};
 ghost use lib.Dec.{leb, eqb};
-ghost use Rattle.lists.specs.Words.{at, every};
+ghost use Rattle.lists.specs.Words.{if_then_else_, at, each, every, some};
 ghost use Rattle.braking.specs.Braking.{S};
 ghost use Rattle.tables.specs.Bounds.{mostSegments};
+ghost use Rattle.tables.specs.Tables.{segmentAt};
 ghost use Rattle.trains.specs.Train.{mostTrains, trainAt};
-ghost use Rattle.trains.specs.Sound.{offSound, placeSound, toRun, brakingSound, askingSound, standsSound, holderSound};
+ghost use Rattle.trains.specs.Sound.{offSound, placeSound, toRun, brakingSound, askingSound, standsSound};
 ghost use Rattle.standing.specs.Spots.{spotAt};
 ghost use Rattle.soundness.specs.Stopping.{Stopping};
+ghost use Rattle.soundness.specs.Covered.{covers, leftOver};
+use lists::entry_u8;
 use trains::Spot;
 use trains::Train;
 
 fn off_sound(x: Train) -> bool
     ensures { λ r. ⌜ r ≡ offSound x ⌝ }
 {
-    (x.place == 0) & (x.position == 0) & (x.speed == 0) & (x.asks == 0) & (x.count == 0)
+    (x.place == 0)
+        & (x.position == 0)
+        & (x.speed == 0)
+        & (x.length == 0)
+        & (x.asks == 0)
+        & (x.count == 0)
 }
 
 fn place_sound(routes: u8, spot: Spot, x: Train) -> bool
@@ -27,7 +35,8 @@ fn place_sound(routes: u8, spot: Spot, x: Train) -> bool
         & (x.place <= spot.count)
         & (x.position < spot.length)
         & (x.speed <= spot.limit)
-        & spot.held
+        & ((1 <= x.length) & (x.length <= 20000))
+        & spot.holdsall
 }
 
 // The way still to run: B(speed) with speed due, S(speed) with another step due.
@@ -103,46 +112,75 @@ pub fn trains_sound(
     true
 }
 
-// The slot of the train that a segment is allocated to, and any where there is none. A train is then read in place: a function
-// that took the trains would copy them all for each segment.
-fn slot_of(h: u8) -> usize
-    ensures { λ r. ⌜ (r < mostTrains) × (1 ≤ h → h ≤ mostTrains → r ≡ h - 1) ⌝ }
+// ---- allocations
+// What is under each train and its next, if that is allocated to it, is taken away from the allocations: then nothing may be left. So no
+// segment is looked for along a route.
+
+// Segment s is taken away.
+fn take(left: &mut [u8], s: u8)
+    ensures { λ _. ⌜ now (left .exit) ≡ each (λ n h. if eqb n s then 0 else h) (now (left .entry)) ⌝ }
 {
-    if (1 <= h) & (h <= 24) {
-        return (h - 1) as usize;
+    if s == 0 {
+        return;
     }
-    0
+    if left.len() < s as usize {
+        return;
+    }
+    left[s as usize - 1] = 0;
 }
 
-fn allocation_sound(routebytes: &[u8; 960], segments: u8, s: u8, h: u8, x: Train) -> bool
-    ensures { λ r. ⌜ r ≡ (eqb h 0 || (leb h mostTrains && holderSound segments (now (routebytes .entry)) x s)) ⌝ }
+// The segments of a route from the rear's place to the front's are taken away.
+fn take_under<'a>(routebytes: &'a [u8; 960], left: &'a mut [u8], r: u8, rear: u8, place: u8)
+    ensures { λ _. ⌜ now (left .exit) ≡ each (λ s h. if some place (λ p. leb rear p && eqb (segmentAt (now (routebytes .entry)) r p) s) then 0 else h) (now (left .entry)) ⌝ }
 {
-    if h == 0 {
-        return true;
+    let mut p = if rear == 0 { 0 } else { rear - 1 };
+    while p < place {
+        p += 1;
+        take(left, lookups::segment_at(routebytes, r, p));
     }
-    let own = standing::is_occupied(routebytes, x, s);
-    let next = standing::is_ahead(routebytes, x, s);
-    let whose = (s <= segments) & (0 < x.route) & (own | next);
-    (h <= 24) & whose
+}
+
+// What a train may hold is taken away.
+fn take_train<'a>(routebytes: &'a [u8; 960], left: &'a mut [u8], spot: Spot, x: Train)
+    ensures { λ _. ⌜ now (left .exit) ≡ each (λ s h. if covers (now (routebytes .entry)) spot x s then 0 else h) (now (left .entry)) ⌝ }
+{
+    if x.route == 0 {
+        return;
+    }
+    take_under(routebytes, left, x.route, spot.rear, x.place);
+    if spot.holds {
+        take(left, spot.next);
+    }
+}
+
+fn none_left(left: &[u8; 62]) -> bool
+    ensures { λ r. ⌜ r ≡ every mostSegments (λ s. eqb (at (now (left .entry)) s) 0) ⌝ }
+{
+    let mut s: usize = 0;
+    while s < 62 {
+        s += 1;
+        if entry_u8(left, s) != 0 {
+            return false;
+        }
+    }
+    true
 }
 
 pub fn allocations_sound(
     routebytes: &[u8; 960],
-    segments: u8,
     allocations: [u8; 62],
+    spots: [Spot; 24],
     trains: [Train; 24],
 ) -> bool
-    ensures { λ r. ⌜ r ≡ every mostSegments (λ s. eqb (at allocations s) 0 || holderSound segments (now (routebytes .entry)) (trainAt trains (at allocations s)) s) ⌝ }
+    ensures { λ r. ⌜ r ≡ every mostSegments (λ s. eqb (leftOver (now (routebytes .entry)) spots trains mostTrains s (at allocations s)) 0) ⌝ }
 {
+    let mut left = allocations;
     let mut i: usize = 0;
-    while i < 62 {
-        let h = allocations[i];
-        let k = slot_of(h);
-        let x = trains[k];
-        if !allocation_sound(routebytes, segments, (i + 1) as u8, h, x) {
-            return false;
-        }
+    while i < 24 {
+        let x = trains[i];
+        let spot = spots[i];
+        take_train(routebytes, &mut left, spot, x);
         i += 1;
     }
-    true
+    none_left(&left)
 }

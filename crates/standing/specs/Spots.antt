@@ -11,7 +11,7 @@ use Rattle.trains.specs.Spot.{spotIn}
 
 -- nowhere
 abbrev pub noSpot : Spot
-noSpot = record { count = 0; length = 0; limit = 0; held = false; next = 0; nextlimit = 0; holds = false; near = false }
+noSpot = record { count = 0; length = 0; limit = 0; rear = 0; holdsall = false; next = 0; nextlimit = 0; holds = false; near = false }
 
 abbrev pub standsIn : (routebytes lengths limits : List ℕ) (d : ℕ) (held : ℕ → ℕ) (t : ℕ) → Train → Spot
 standsIn routebytes lengths limits d held t x = if isOn x then spotIn routebytes lengths limits d held t x else noSpot

@@ -1,9 +1,11 @@
 // A train's forms, and where it stands. The tables' arrays are lent.
 ghost use mathlib.Core.Path.{_≡_};
 ghost use Prim.Native.Nat.{_-_};
-ghost use lib.Dec.{leb, eqb};
-ghost use Rattle.lists.specs.Words.{at, each};
-ghost use Rattle.trains.specs.Train.{off, entered, withSpeed, asking, withAsking, answered, movedTo, trainAt, ownIn, nextIn, occupiedIn, aheadIn, wantedIn};
+ghost use mathlib.Core.Bool.{_||_};
+ghost use lib.Dec.{leb, ltb, eqb};
+ghost use Rattle.lists.specs.Words.{at, each, every};
+ghost use Rattle.tables.specs.Tables.{segmentAt};
+ghost use Rattle.trains.specs.Train.{off, entered, withSpeed, asking, withAsking, answered, movedTo, trainAt, ownIn, nextIn, wantedIn, rearIn};
 ghost use Rattle.trains.specs.Spot.{spotIn};
 ghost use Rattle.trains.specs.Cycle.{wants};
 ghost use Rattle.standing.specs.Spots.{noSpot, standsIn};
@@ -22,19 +24,21 @@ pub fn train_off() -> Train
         place: 0,
         position: 0,
         speed: 0,
+        length: 0,
         asks: 0,
         count: 0,
     }
 }
 
-pub fn entered_train(route: u8, speed: u16) -> Train
-    ensures { λ r. ⌜ r ≡ entered route speed ⌝ }
+pub fn entered_train(route: u8, length: u16, speed: u16) -> Train
+    ensures { λ r. ⌜ r ≡ entered (record { route = route; length = length }) speed ⌝ }
 {
     Train {
         route,
         place: 1,
         position: 0,
         speed,
+        length,
         asks: 0,
         count: 0,
     }
@@ -48,6 +52,7 @@ pub fn with_speed(x: Train, speed: u16) -> Train
         place: x.place,
         position: x.position,
         speed,
+        length: x.length,
         asks: x.asks,
         count: x.count,
     }
@@ -68,6 +73,7 @@ pub fn with_asking(x: Train, asks: bool) -> Train
         place: x.place,
         position: x.position,
         speed: x.speed,
+        length: x.length,
         asks: asking(asks),
         count: x.count,
     }
@@ -81,6 +87,7 @@ pub fn answered(x: Train, count: u16) -> Train
         place: x.place,
         position: x.position,
         speed: x.speed,
+        length: x.length,
         asks: 0,
         count,
     }
@@ -94,6 +101,7 @@ pub fn moved_to(x: Train, place: u8, position: u32) -> Train
         place,
         position,
         speed: x.speed,
+        length: x.length,
         asks: x.asks,
         count: x.count,
     }
@@ -128,19 +136,7 @@ pub fn next_of(routebytes: &[u8; 960], x: Train) -> u8
     0
 }
 
-// The segments under the train, those that may be allocated to it ahead of its front, and what it asks for.
-pub fn is_occupied(routebytes: &[u8; 960], x: Train, s: u8) -> bool
-    ensures { λ r. ⌜ r ≡ occupiedIn (now (routebytes .entry)) x s ⌝ }
-{
-    own_of(routebytes, x) == s
-}
-
-pub fn is_ahead(routebytes: &[u8; 960], x: Train, s: u8) -> bool
-    ensures { λ r. ⌜ r ≡ aheadIn (now (routebytes .entry)) x s ⌝ }
-{
-    (0 < s) & (next_of(routebytes, x) == s)
-}
-
+// What a train asks for.
 pub fn wanted_of(routebytes: &[u8; 960], x: Train) -> u8
     ensures { λ r. ⌜ r ≡ wantedIn (now (routebytes .entry)) x ⌝ }
 {
@@ -156,11 +152,60 @@ fn is_near(length: u32, margin: u32, position: u32) -> bool
     length - margin <= position
 }
 
+// a - b, and 0 where b is greater.
+fn less(a: u32, b: u32) -> u32
+    ensures { λ r. ⌜ r ≡ a - b ⌝ }
+{
+    if a <= b { 0 } else { a - b }
+}
+
+// The length of the segment at a place of a route.
+fn length_at<'a>(routebytes: &'a [u8; 960], lengths: &'a [u32; 62], r: u8, p: u8) -> u32
+    ensures { λ length. ⌜ length ≡ at (now (lengths .entry)) (segmentAt (now (routebytes .entry)) r p) ⌝ }
+{
+    entry_u32(lengths, lookups::segment_at(routebytes, r, p) as usize)
+}
+
+// The place of a train's rear. From its front's place on back along its route, what still lies behind a segment's start is lessened by the
+// length of the segment before it, until nothing is left or the route's first segment is come to.
+pub fn rear_of<'a>(routebytes: &'a [u8; 960], lengths: &'a [u32; 62], x: Train) -> u8
+    ensures { λ r. ⌜ r ≡ rearIn (now (routebytes .entry)) (now (lengths .entry)) x ⌝ }
+{
+    let mut p = x.place;
+    let mut back = less(x.length as u32, x.position);
+    while (1 < p) & (0 < back) {
+        p -= 1;
+        back = less(back, length_at(routebytes, lengths, x.route, p));
+    }
+    if p == 0 { 1 } else { p }
+}
+
 // Segment s is allocated to train t.
 fn is_held(allocations: &[u8; 62], s: u8, t: u8) -> bool
     ensures { λ r. ⌜ r ≡ eqb (at (now (allocations .entry)) s) t ⌝ }
 {
     entry_u8(allocations, s as usize) == t
+}
+
+// Every segment of a route from the rear's place to the front's is allocated to train t.
+fn all_held<'a>(
+    routebytes: &'a [u8; 960],
+    allocations: &'a [u8; 62],
+    r: u8,
+    rear: u8,
+    place: u8,
+    t: u8,
+) -> bool
+    ensures { λ ok. ⌜ ok ≡ every place (λ p. ltb p rear || eqb (at (now (allocations .entry)) (segmentAt (now (routebytes .entry)) r p)) t) ⌝ }
+{
+    let mut p = if rear == 0 { 0 } else { rear - 1 };
+    while p < place {
+        p += 1;
+        if !is_held(allocations, lookups::segment_at(routebytes, r, p), t) {
+            return false;
+        }
+    }
+    true
 }
 
 fn spot_of<'a>(
@@ -177,11 +222,13 @@ fn spot_of<'a>(
     let own = own_of(routebytes, x);
     let next = next_of(routebytes, x);
     let length = entry_u32(lengths, own as usize);
+    let rear = rear_of(routebytes, lengths, x);
     Spot {
         count: lookups::count_of(routebytes, x.route),
         length,
         limit: entry_u16(limits, own as usize),
-        held: is_held(allocations, own, t),
+        rear,
+        holdsall: all_held(routebytes, allocations, x.route, rear, x.place, t),
         next,
         nextlimit: entry_u16(limits, next as usize),
         holds: (0 < next) & is_held(allocations, next, t),
@@ -196,7 +243,8 @@ fn no_spot() -> Spot
         count: 0,
         length: 0,
         limit: 0,
-        held: false,
+        rear: 0,
+        holdsall: false,
         next: 0,
         nextlimit: 0,
         holds: false,

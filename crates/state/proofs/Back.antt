@@ -43,9 +43,10 @@ train-back p x rest t long =
     let four = four-after p s (trainStart t) long in
     let speed : twoAt s (inTrain .speed) ≡ x .speed = omega arith in
     let count : twoAt s (inTrain .count) ≡ x .count = omega arith in
+    let size : twoAt s (inTrain .length) ≡ x .length = omega arith in
     let position : fourAt s (inTrain .position) ≡ x .position = omega arith in
     rw (byte (inTrain .route), byte (inTrain .place), byte (inTrain .asks))
-    (rw (two (inTrain .speed), speed, two (inTrain .count), count, four (inTrain .position), position))
+    (rw (two (inTrain .speed), speed, two (inTrain .count), count, two (inTrain .length), size, four (inTrain .position), position))
 
 -- the trains from number n + 1 on, whose rows come after those of the trains before
 trains-back :

@@ -17,15 +17,16 @@ use Rattle.trains.specs.Train.{mostTrains, off}
 use Rattle.area.specs.declared.Area.{Area}
 use Rattle.state.specs.State.{trainBytes, trainRows, headSize, headBytes, stateBytes, stateSize, tablesOf}
 
--- the twelve bytes of a train that hold something, put into zeros; p, v and n are the bytes of its position, speed and count
+-- the fourteen bytes of a train that hold something, put into zeros; p, v, n and l are the bytes of its position, speed, count and length
 pub train-put :
-    (x : Train) {p v n : List ℕ} → p ≡ four (x .position) → v ≡ two (x .speed) → n ≡ two (x .count)
+    (x : Train) {p v n l : List ℕ} → p ≡ four (x .position) → v ≡ two (x .speed) → n ≡ two (x .count) → l ≡ two (x .length)
     → putAt 0
-    (x .route ∷ x .place ∷ x .asks ∷ 0 ∷ getD p 0 0 ∷ getD p 1 0 ∷ getD p 2 0 ∷ getD p 3 0 ∷ getD v 0 0 ∷ getD v 1 0 ∷ getD n 0 0 ∷ getD n 1 0 ∷ [])
+    (x .route ∷ x .place ∷ x .asks ∷ 0 ∷ getD p 0 0 ∷ getD p 1 0 ∷ getD p 2 0 ∷ getD p 3 0 ∷ getD v 0 0 ∷ getD v 1 0 ∷ getD n 0 0 ∷ getD n 1 0
+    ∷ getD l 0 0 ∷ getD l 1 0 ∷ [])
     (replicate 32 0)
     ≡ trainBytes x
 unfolding putAt
-train-put x e f g = rw (e, f, g)
+train-put x e f g h = rw (e, f, g, h)
 
 -- 64 bytes of zeros into which the step due and the allocations are put
 pub head-put :

@@ -14,7 +14,7 @@ use Rattle.trains.specs.declared.Train.{Train}
 use Rattle.trains.specs.Train.{mostTrains}
 use Rattle.area.specs.declared.Area.{Area}
 
--- a train's 32 bytes: route, place, asks (0 or 1 in a sound record), a zero, position, speed, count, zeros.
+-- a train's 32 bytes: route, place, asks (0 or 1 in a sound record), a zero, position, speed, count, length, zeros.
 -- Where each stands, and all of them as a row
 pub record TrainPlaces : Type 0 where
   pub route : ℕ
@@ -23,12 +23,13 @@ pub record TrainPlaces : Type 0 where
   pub position : ℕ
   pub speed : ℕ
   pub count : ℕ
+  pub length : ℕ
 
 abbrev pub inTrain : TrainPlaces
-inTrain = record { route = 0; place = 1; asks = 2; position = 4; speed = 8; count = 10 }
+inTrain = record { route = 0; place = 1; asks = 2; position = 4; speed = 8; count = 10; length = 12 }
 
 abbrev pub trainBytes : Train → List ℕ
-trainBytes x = x .route ∷ x .place ∷ x .asks ∷ 0 ∷ four (x .position) ++ two (x .speed) ++ two (x .count) ++ replicate 20 0
+trainBytes x = x .route ∷ x .place ∷ x .asks ∷ 0 ∷ four (x .position) ++ two (x .speed) ++ two (x .count) ++ two (x .length) ++ replicate 18 0
 
 -- the trains' rows one after the other
 abbrev pub trainRows : List Train → List ℕ
@@ -66,6 +67,7 @@ trainOf state t =
       speed = twoAt state (trainStart t + inTrain .speed);
       asks = byteAt state (trainStart t + inTrain .asks);
       count = twoAt state (trainStart t + inTrain .count);
+      length = twoAt state (trainStart t + inTrain .length);
     }
 
 unfoldable pub recordOf : (file state : List ℕ) → Area

@@ -15,6 +15,7 @@ fn train_bytes(x: Train) -> [u8; 32]
     let p = octets::four(x.position);
     let v = octets::two(x.speed);
     let n = octets::two(x.count);
+    let l = octets::two(x.length);
     let held = [
         x.route,
         x.place,
@@ -28,6 +29,8 @@ fn train_bytes(x: Train) -> [u8; 32]
         v[1],
         n[0],
         n[1],
+        l[0],
+        l[1],
     ];
     let mut row = [0u8; 32];
     octets::put(&mut row, 0, &held);
@@ -107,6 +110,7 @@ fn train_of(state: &[u8], i: u8) -> Train
         speed: octets::two_at(state, start as u32 + 8),
         asks: octets::byte(state, at + 2),
         count: octets::two_at(state, start as u32 + 10),
+        length: octets::two_at(state, start as u32 + 12),
     }
 }
 

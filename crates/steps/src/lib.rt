@@ -7,11 +7,11 @@ ghost use lib.Dec.{eqb};
 ghost use Rattle.lists.specs.Words.{if_then_else_, at};
 ghost use Rattle.lists.specs.Tests.{_⇒_, firstOf};
 ghost use Rattle.trains.specs.Due.{speedDue};
-ghost use Rattle.trains.specs.Train.{mostTrains, ownIn};
+ghost use Rattle.trains.specs.Train.{mostTrains};
 ghost use Rattle.trains.specs.Cycle.{upperEnd, newSpeed, spedAt, requestedAt, movesIn, movedIn};
 ghost use Rattle.steps.specs.Room.{Room};
+ghost use Rattle.steps.specs.Left.{leftIn};
 use lists::entry_u8;
-use lists::entry_u32;
 use trains::Spot;
 use trains::Train;
 
@@ -115,7 +115,8 @@ fn moves_on(length: u32, x: Train) -> bool
     (0 < x.route) & ((length as u64) <= run_to(x.position, x.speed))
 }
 
-fn moved_train(length: u32, x: Train) -> Train
+// A train after the step, by the length of its own segment.
+pub fn moved_train(length: u32, x: Train) -> Train
     requires { ⌜ Room x ⌝ }
     ensures { λ r. ⌜ r ≡ movedIn length x ⌝ }
 {
@@ -126,29 +127,17 @@ fn moved_train(length: u32, x: Train) -> Train
     standing::moved_to(x, x.place, to as u32)
 }
 
-// A train after the step. Nothing is looked up for a train off, as most are most of the time.
-pub fn moved_by<'a>(routebytes: &'a [u8; 960], lengths: &'a [u32; 62], x: Train) -> Train
-    requires { ⌜ Room x ⌝ }
-    ensures { λ r. ⌜ r ≡ movedIn (at (now (lengths .entry)) (ownIn (now (routebytes .entry)) x)) x ⌝ }
-{
-    if x.route == 0 {
-        return moved_train(0, x);
-    }
-    let own = standing::own_of(routebytes, x);
-    let length = entry_u32(lengths, own as usize);
-    moved_train(length, x)
-}
-
-// The segment that a train frees: its own where it moves on, 0 where it does not.
-pub fn left_by<'a>(routebytes: &'a [u8; 960], lengths: &'a [u32; 62], x: Train) -> u8
-    ensures { λ r. ⌜ r ≡ (if movesIn (at (now (lengths .entry)) (ownIn (now (routebytes .entry)) x)) x then ownIn (now (routebytes .entry)) x else 0) ⌝ }
+// The segment that a train's rear leaves, by the place of the rear before the step and the train after it; 0 where it leaves none.
+pub fn left_by<'a>(routebytes: &'a [u8; 960], lengths: &'a [u32; 62], rear: u8, x: Train) -> u8
+    ensures { λ r. ⌜ r ≡ leftIn (now (routebytes .entry)) (now (lengths .entry)) rear x ⌝ }
 {
     if x.route == 0 {
         return 0;
     }
-    let own = standing::own_of(routebytes, x);
-    let length = entry_u32(lengths, own as usize);
-    if moves_on(length, x) { own } else { 0 }
+    if standing::rear_of(routebytes, lengths, x) == rear {
+        return 0;
+    }
+    lookups::segment_at(routebytes, x.route, rear)
 }
 
 pub fn released_one(left: &[u8; 24], s: u8, h: u8) -> u8

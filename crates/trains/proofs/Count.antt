@@ -6,13 +6,13 @@ use borrow.Author.Tests.{lt-ltb}
 use Rattle.lists.proofs.Cases.{by-test}
 use Rattle.tables.specs.declared.Tables.{Tables}
 use Rattle.trains.specs.declared.Train.{Train}
-use Rattle.trains.specs.Train.{off, entered, isOn, ownIn, nextIn}
+use Rattle.trains.specs.Train.{Journey, off, entered, isOn, ownIn, nextIn, rearIn, holdsAllIn}
 use Rattle.trains.specs.Cycle.{sped, requested, movesOn, movedIn, moved}
 use Rattle.trains.specs.Sound.{placeSound, brakingSound, askingSound, standsSound, trainSound}
 
 -- THE CLAIM: the count is 0 at enter, and a train off has count 0
-pub entered-count : (r v : ℕ) → entered r v .count ≡ 0
-entered-count r v = refl
+pub entered-count : (j : Journey) (v : ℕ) → entered j v .count ≡ 0
+entered-count j v = refl
 
 pub off-count : off .count ≡ 0
 off-count = refl
@@ -33,9 +33,9 @@ module _ (T : Tables) (A : List ℕ) (t : ℕ) (x : Train) where
 
 -- a train with another count
 abbrev counting : Train → ℕ → Train
-counting x c = record { route = x .route; place = x .place; position = x .position; speed = x .speed; asks = x .asks; count = c }
+counting x c = record { route = x .route; place = x .place; position = x .position; speed = x .speed; length = x .length; asks = x .asks; count = c }
 
 -- THE CLAIM: a train on is as sound with any other count
 pub any-count : (T : Tables) (A : List ℕ) (due t : ℕ) (x : Train) (c : ℕ) → 1 ≤ x .route → trainSound T A due t (counting x c) ≡ trainSound T A due t x
-unfolding ownIn nextIn standsSound placeSound brakingSound askingSound
+unfolding ownIn nextIn rearIn holdsAllIn standsSound placeSound brakingSound askingSound
 any-count T A due t x c on = rw (lt-ltb 0 (x .route) on)

@@ -1,6 +1,11 @@
 pub mod Laws
+pub mod Rear
 pub mod Segments
 pub mod Safety
+pub mod Freed
+pub mod Front
+pub mod Edges
+pub mod Entry
 pub mod Soundness
 pub mod Order
 pub mod Grant

@@ -14,12 +14,12 @@ use Rattle.tables.specs.Tables.{countOf}
 use Rattle.trains.specs.declared.Train.{Train}
 use Rattle.trains.specs.declared.Spot.{Spot}
 use Rattle.trains.specs.Due.{speedDue, grantDue}
-use Rattle.trains.specs.Train.{off, asking, trainAt, isOn, ownOf, ownLength, ownLimit, occupied, ahead}
+use Rattle.trains.specs.Train.{longestTrain, off, asking, trainAt, isOn, ownLength, ownLimit, occupied, ahead}
 use Rattle.trains.specs.Spot.{spotOf}
 use Rattle.trains.specs.Cycle.{wants}
 use Rattle.trains.specs.Sound.{offSound, placeSound, toRun, brakingSound, askingSound, standsSound, trainSound, allocationSound}
 use Rattle.trains.specs.SoundFacts.{SoundTrain, SoundAllocation}
-use Rattle.trains.proofs.Segments.{own-occupied, occupied-own}
+use Rattle.trains.proofs.Segments.{all-held-iff, occupied-iff, ahead-iff}
 
 module _ (b due : ℕ) (p : Spot) (x : Train) where
   pub asking-iff : (askingSound due p x ≡ true) ↔ (x .asks ≡ asking (eqb due grantDue && wants p))
@@ -59,15 +59,24 @@ module _ (b due : ℕ) (p : Spot) (x : Train) where
 -- what the test of a train's place says
 pub place-facts :
     (R : ℕ) (p : Spot) (x : Train) → placeSound R p x ≡ true
-    → (x .route ≤ R) × (1 ≤ x .place) × (x .place ≤ p .count) × (x .position < p .length) × (x .speed ≤ p .limit) × (p .held ≡ true)
+    → (x .route ≤ R) × (1 ≤ x .place) × (x .place ≤ p .count) × (x .position < p .length) × (x .speed ≤ p .limit) × (p .holdsall ≡ true)
+    × ((1 ≤ x .length) × (x .length ≤ longestTrain))
 unfolding placeSound
 place-facts R p x e =
-    let f = simp facts at e in (f .0 .0 .0 .0 .0, f .0 .0 .0 .0 .1, f .0 .0 .0 .1, f .0 .0 .1, f .0 .1, f .1)
+    let f = simp facts at e in (
+      f .0 .0 .0 .0 .0 .0,
+      f .0 .0 .0 .0 .0 .1,
+      f .0 .0 .0 .0 .1,
+      f .0 .0 .0 .1,
+      f .0 .0 .1,
+      f .1,
+      f .0 .1,
+    )
 
 off-by :
-    (r p i v q n : ℕ) → r ≡ 0 → p ≡ 0 → i ≡ 0 → v ≡ 0 → q ≡ 0 → n ≡ 0
-    → record { route = r; place = p; position = i; speed = v; asks = q; count = n } ≡ off
-off-by r p i v q n a b c d e f = rw (a, b, c, d, e, f)
+    (r p i v l q n : ℕ) → r ≡ 0 → p ≡ 0 → i ≡ 0 → v ≡ 0 → l ≡ 0 → q ≡ 0 → n ≡ 0
+    → record { route = r; place = p; position = i; speed = v; length = l; asks = q; count = n } ≡ off
+off-by r p i v l q n a b c d e f g = rw (a, b, c, d, e, f, g)
 
 module _ (T : Tables) (A : List ℕ) (due t : ℕ) (x : Train) where
   abbrev here : Spot
@@ -82,7 +91,9 @@ module _ (T : Tables) (A : List ℕ) (due t : ℕ) (x : Train) where
         le-leb (x .place) (countOf (T .routebytes) (x .route)) (f .place .1),
         lt-ltb (x .position) (ownLength T x) (f .position),
         le-leb (x .speed) (ownLimit T x) (f .speed),
-        eq-eqb (at A (ownOf T x)) t (f .own (ownOf T x) (own-occupied T x refl)),
+        le-leb 1 (x .length) (f .length .0),
+        le-leb (x .length) longestTrain (f .length .1),
+        all-held-iff T x (at A) t .1 (λ s o. f .under s (occupied-iff T x (f .position) s .0 o)),
       )
 
   -- THE CLAIM: of a train on, the test decides the facts
@@ -100,7 +111,8 @@ module _ (T : Tables) (A : List ℕ) (due t : ℕ) (x : Train) where
               place = (p .1, p .2);
               position = p .3;
               speed = p .4;
-              own = λ s q. rw (occupied-own T x q) at (eqb-true (at A (ownOf T x)) t (p .5));
+              length = p .6;
+              under = λ s u. all-held-iff T x (at A) t .0 (p .5) s (occupied-iff T x (p .3) s .1 u);
               stops = b .0;
               next = b .1;
               asks = asking-iff (T .braking) due here x .0 (f .1);
@@ -121,15 +133,18 @@ module _ (T : Tables) (A : List ℕ) (due t : ℕ) (x : Train) where
     λ e.
         let h : offSound x ≡ true = rw z at e in
         let f = simp facts at h in
-        off-by (x .route) (x .place) (x .position) (x .speed) (x .asks) (x .count) z (omega (arith, f)) (omega (arith, f)) (omega (arith, f))
-        (omega (arith, f)) (omega (arith, f)),
+        off-by (x .route) (x .place) (x .position) (x .speed) (x .length) (x .asks) (x .count) z (omega (arith, f)) (omega (arith, f))
+        (omega (arith, f)) (omega (arith, f)) (omega (arith, f)) (omega (arith, f)),
     λ e. rw e,
   )
 
--- THE CLAIM: of an allocation that is not 0, the test decides the facts
-pub allocation-iff : (T : Tables) (trains : List Train) (s h : ℕ) → 1 ≤ h → (allocationSound T trains s h ≡ true) ↔ SoundAllocation T trains s h
+-- THE CLAIM: of an allocation that is not 0, to a train that has not come to its segment's end, the test decides the facts
+pub allocation-iff :
+    (T : Tables) (trains : List Train) (s h : ℕ) → 1 ≤ s → 1 ≤ h
+    → (1 ≤ trainAt trains h .route → trainAt trains h .position < ownLength T (trainAt trains h))
+    → (allocationSound T trains s h ≡ true) ↔ SoundAllocation T trains s h
 unfolding allocationSound
-allocation-iff T trains s h some =
+allocation-iff T trains s h low some inside =
     let x = trainAt trains h in
     let n : eqb h 0 ≡ false = ne-eqb h 0 (λ z. omega arith) in (
       λ e.
@@ -138,13 +153,17 @@ allocation-iff T trains s h some =
           record {
             segment = leb-true s (T .segments) (f .0 .0);
             on = ltb-true 0 (x .route) (f .0 .1);
-            whose = either (occupied T x s) (ahead T x s) (f .1);
+            whose =
+                cases (either (occupied T x s) (ahead T x s) (f .1))
+                (λ q. inl (occupied-iff T x (inside (ltb-true 0 (x .route) (f .0 .1))) s .0 q))
+                (λ q. inr (ahead-iff T x s low .0 q));
           },
       λ f.
           rw (
             n,
             le-leb s (T .segments) (f .segment),
             lt-ltb 0 (x .route) (f .on),
-            either-yes (occupied T x s) (ahead T x s) (f .whose),
+            either-yes (occupied T x s) (ahead T x s)
+                (cases (f .whose) (λ q. inl (occupied-iff T x (inside (f .on)) s .1 q)) (λ q. inr (ahead-iff T x s low .1 q))),
           ),
     )

@@ -1,4 +1,5 @@
--- What becomes of one train, and of one segment's allocation, at speed, request and position (document 01, "The calls").
+-- What becomes of one train, and of one segment's allocation, at speed, request and position (document 01, "The calls"; document 02,
+-- R-4).
 -- T are the tables of the area, A its allocations, t the number of a train, x the train, p where it stands, s a segment, h who holds it.
 use Prim.Native.Nat.{ℕ, _+_, _-_, min, max}
 use mathlib.Core.Bool.{Bool, not, _&&_}
@@ -40,7 +41,7 @@ requestedAt p x = if isOn x then withAsking x (wants p) else x
 unfoldable pub requested : Tables → List ℕ → ℕ → Train → Train
 requested T A t x = requestedAt (spotOf T (at A) t x) x
 
--- *Position*: position + speed. At or above the length it moves on: length subtracted, old segment freed
+-- *Position*: position + speed. At or above the length it moves on: length subtracted
 unfoldable pub movesIn : (length : ℕ) → Train → Bool
 movesIn length x = isOn x && leb length (x .position + x .speed)
 
@@ -56,8 +57,10 @@ movedIn length x =
 abbrev pub moved : Tables → Train → Train
 moved T x = movedIn (ownLength T x) x
 
+-- "A segment is under the train from the front's arrival until the rear is at or past its end, and is freed only then, at position": what
+-- was under the train and no longer is. x is the train before the step
 unfoldable pub released : Tables → Train → ℕ → Bool
-released T x s = movesOn T x && occupied T x s
+released T x s = occupied T x s && not (occupied T (moved T x) s)
 
 unfoldable pub freed : Tables → List Train → ℕ → ℕ → ℕ
 freed T trains s h = if released T (trainAt trains h) s then 0 else h

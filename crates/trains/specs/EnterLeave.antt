@@ -1,5 +1,7 @@
--- What becomes of the trains and of one segment's allocation at enter and leave, and what these two ask (document 01, "The calls").
--- T are the tables of the area, A its allocations, t the number of a train, x the train, s the number of a segment, h who holds it.
+-- What becomes of the trains and of one segment's allocation at enter and leave, and what these two ask (document 01, "The calls";
+-- document 02, R-4).
+-- T are the tables of the area, A its allocations, t the number of a train, x the train, j its journey, r a route, s the number of a
+-- segment, h who holds it.
 use Prim.Native.Nat.{ℕ, _/_, _%_}
 use mathlib.Core.Bool.{Bool, not, _&&_}
 use mathlib.Core.List.{List, [], _∷_}
@@ -9,7 +11,7 @@ use Rattle.lists.specs.Tests.{Test, _⇒_}
 use Rattle.tables.specs.declared.Tables.{Tables}
 use Rattle.tables.specs.Tables.{countOf, segmentAt}
 use Rattle.trains.specs.declared.Train.{Train}
-use Rattle.trains.specs.Train.{mostTrains, trainAt, isOn, ownOf}
+use Rattle.trains.specs.Train.{mostTrains, Journey, lengthOk, trainAt, isOn, ownOf}
 
 -- *Enter*: position 0 of the first segment, which becomes allocated to train t
 abbrev pub firstSegment : Tables → ℕ → ℕ
@@ -44,15 +46,16 @@ noTrain t = not (leb 1 t && leb t mostTrains)
 abbrev pub noRoute : Tables → ℕ → Bool
 noRoute T r = not (leb 1 r && leb r (T .routes))
 
--- the tests of enter (train t, route r, speed v) and of leave that come after 11
-abbrev pub entryTests : Tables → List ℕ → List Train → (t r v : ℕ) → List Test
-entryTests T A trains t r v =
+-- the tests of enter (train t, journey j, speed v) and of leave that come after 11; "23, length outside the bounds, after 16"
+abbrev pub entryTests : Tables → List ℕ → List Train → ℕ → Journey → ℕ → List Test
+entryTests T A trains t j v =
     noTrain t ⇒ 13
     ∷ isOn (trainAt trains t) ⇒ 14
-    ∷ noRoute T r ⇒ 16
-    ∷ not (isEntry T (firstSegment T r)) ⇒ 17
-    ∷ ltb 0 (at A (firstSegment T r)) ⇒ 18
-    ∷ ltb (at (T .limits) (firstSegment T r)) v ⇒ 19
+    ∷ noRoute T (j .route) ⇒ 16
+    ∷ not (lengthOk (j .length)) ⇒ 23
+    ∷ not (isEntry T (firstSegment T (j .route))) ⇒ 17
+    ∷ ltb 0 (at A (firstSegment T (j .route))) ⇒ 18
+    ∷ ltb (at (T .limits) (firstSegment T (j .route))) v ⇒ 19
     ∷ []
 
 abbrev pub exitTests : Tables → List Train → ℕ → List Test

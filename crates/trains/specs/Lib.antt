@@ -9,3 +9,4 @@ pub mod EnterLeave
 pub mod Sound
 pub mod SoundFacts
 pub mod Way
+pub mod FreedFacts

@@ -1,4 +1,4 @@
--- The conditions of "A sound record" (document 01) on one train and on one allocation.
+-- The conditions of "A sound record" (document 01; document 02, R-4) on one train and on one allocation.
 -- T are the tables of the area, A its allocations, due the step due, t the number of a train, x the train, p where it stands, s a
 -- segment, h who holds it.
 use Prim.Native.Nat.{ℕ, _+_}
@@ -11,19 +11,21 @@ use Rattle.tables.specs.declared.Tables.{Tables}
 use Rattle.trains.specs.declared.Train.{Train}
 use Rattle.trains.specs.declared.Spot.{Spot}
 use Rattle.trains.specs.Due.{speedDue, grantDue}
-use Rattle.trains.specs.Train.{asking, trainAt, isOn, occupiedIn, aheadIn}
+use Rattle.trains.specs.Train.{lengthOk, asking, trainAt, isOn, occupied, ahead}
 use Rattle.trains.specs.Spot.{spotOf}
 use Rattle.trains.specs.Cycle.{wants}
 
 -- a train off is all zero: "a train off has count 0" too
 abbrev pub offSound : Train → Bool
-offSound x = eqb (x .place) 0 && eqb (x .position) 0 && eqb (x .speed) 0 && eqb (x .asks) 0 && eqb (x .count) 0
+offSound x =
+    eqb (x .place) 0 && eqb (x .position) 0 && eqb (x .speed) 0 && eqb (x .length) 0 && eqb (x .asks) 0 && eqb (x .count) 0
 
--- a train on: route 1 to R, place 1 to the route's count, position < length, speed ≤ limit; its own segment is allocated to it
+-- a train on: route 1 to R, place 1 to the route's count, position < length, speed ≤ limit; "a record with a train on whose length is
+-- outside that is unsound"; every segment under it is allocated to it
 unfoldable pub placeSound : (R : ℕ) → Spot → Train → Bool
 placeSound R p x =
     leb (x .route) R && leb 1 (x .place) && leb (x .place) (p .count)
-    && ltb (x .position) (p .length) && leb (x .speed) (p .limit) && p .held
+    && ltb (x .position) (p .length) && leb (x .speed) (p .limit) && lengthOk (x .length) && p .holdsall
 
 -- the way still to run under full braking: B(speed) with speed due, S(speed) with another step due
 unfoldable pub toRun : (b due speed : ℕ) → ℕ
@@ -48,10 +50,10 @@ standsSound R b due p x = if isOn x then placeSound R p x && brakingSound b due 
 abbrev pub trainSound : Tables → List ℕ → ℕ → ℕ → Train → Bool
 trainSound T A due t x = standsSound (T .routes) (T .braking) due (spotOf T (at A) t x) x
 
--- a segment that is allocated to a train: at most N; the train is on, and the segment is under it or may be allocated ahead of it
-abbrev pub holderSound : (N : ℕ) (routebytes : List ℕ) → Train → ℕ → Bool
-holderSound N routebytes x s = leb s N && isOn x && (occupiedIn routebytes x s || aheadIn routebytes x s)
+-- a segment that is allocated to a train: at most N; the train is on, and the segment is under it or its next
+abbrev pub holderSound : Tables → Train → ℕ → Bool
+holderSound T x s = leb s (T .segments) && isOn x && (occupied T x s || ahead T x s)
 
 -- an allocation is 0 or the number of a train on; above N it is 0
 unfoldable pub allocationSound : Tables → List Train → ℕ → ℕ → Bool
-allocationSound T trains s h = eqb h 0 || holderSound (T .segments) (T .routebytes) (trainAt trains h) s
+allocationSound T trains s h = eqb h 0 || holderSound T (trainAt trains h) s

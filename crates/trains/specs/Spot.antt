@@ -9,17 +9,18 @@ use Rattle.tables.specs.declared.Tables.{Tables}
 use Rattle.tables.specs.Tables.{countOf}
 use Rattle.trains.specs.declared.Train.{Train}
 use Rattle.trains.specs.declared.Spot.{Spot}
-use Rattle.trains.specs.Train.{ownIn, nextIn}
+use Rattle.trains.specs.Train.{ownIn, nextIn, rearIn, holdsAllIn}
 
--- its route's count; its own segment's length and limit, and whether that is allocated to it; its next, the limit there, and
--- whether it exists and is allocated to it; near
+-- its route's count; its own segment's length and limit; its rear's place, and whether every segment under it is allocated to it; its
+-- next, the limit there, and whether it exists and is allocated to it; near
 abbrev pub spotIn : (routebytes lengths limits : List ℕ) (d : ℕ) (held : ℕ → ℕ) (t : ℕ) → Train → Spot
 spotIn routebytes lengths limits d held t x =
     record {
       count = countOf routebytes (x .route);
       length = at lengths (ownIn routebytes x);
       limit = at limits (ownIn routebytes x);
-      held = eqb (held (ownIn routebytes x)) t;
+      rear = rearIn routebytes lengths x;
+      holdsall = holdsAllIn routebytes lengths held t x;
       next = nextIn routebytes x;
       nextlimit = at limits (nextIn routebytes x);
       holds = ltb 0 (nextIn routebytes x) && eqb (held (nextIn routebytes x)) t;

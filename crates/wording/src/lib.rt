@@ -26,7 +26,8 @@ fn say_word(number: u8) {
         19 => io::write_all(STDOUT_FILENO, b"too fast\n"),
         20 => io::write_all(STDOUT_FILENO, b"no exit\n"),
         21 => io::write_all(STDOUT_FILENO, b"wishes\n"),
-        _ => io::write_all(STDOUT_FILENO, b"buffer\n"),
+        22 => io::write_all(STDOUT_FILENO, b"buffer\n"),
+        _ => io::write_all(STDOUT_FILENO, b"length\n"),
     }
     ;
 }

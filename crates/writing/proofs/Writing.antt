@@ -25,7 +25,7 @@ use Rattle.encoding.proofs.Whole.{encoded-long}
 use Rattle.answers.specs.Answers.{answerOf}
 use Rattle.area.specs.declared.Area.{Area}
 use Rattle.area.specs.Sound.{sound}
-use Rattle.area.proofs.Soundness.{sound-iff}
+use Rattle.area.proofs.Soundness.{sound-meets}
 use Rattle.loading.specs.Load.{loaded}
 use Rattle.loading.proofs.Loading.{loaded-by-reading}
 use Rattle.separation.specs.Calls.{Call}
@@ -84,7 +84,7 @@ encoded-loads T long meets =
 
 -- THE CLAIM: so does the file of a sound record's tables
 pub sound-loads : (a : Area) → Sized (a .tables) → sound a ≡ true → loaded (encoded (a .tables)) ≡ doneWith (a .tables)
-sound-loads a long s = encoded-loads (a .tables) long (sound-iff a .0 s .tables)
+sound-loads a long s = encoded-loads (a .tables) long (sound-meets a s)
 
 -- THE CLAIM: different tables have different files, whether they meet the rules or not, since each reads back; what is asked is that their
 -- lists have the arrays' lengths

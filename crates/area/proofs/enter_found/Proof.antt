@@ -10,7 +10,7 @@ use denote.Ref.{now}
 use Rattle.lists.specs.Tests.{Test, _⇒_, firstOf, conditionOf}
 use Rattle.lists.proofs.Refusals.{within}
 use Rattle.tables.specs.declared.Tables.{Tables}
-use Rattle.trains.specs.Train.{mostTrains}
+use Rattle.trains.specs.Train.{mostTrains, Journey}
 use Rattle.trains.specs.EnterLeave.{firstSegment, entryTests}
 use Rattle.area.specs.declared.Area.{Area}
 use Rattle.area.specs.declared.Examined.{Examined}
@@ -22,7 +22,7 @@ use Rattle.area.proofs.enter_found.Tie as tie
 
 -- the parts that the call is handed are those of the record a
 abbrev Given : tie.Start → Area → Type 0
-Given s a = let i = s .args in Parts a (i .found) (i .t9) (i .trains) (i .due)
+Given s a = let i = s .args in Parts a (i .found) (i .t10) (i .trains) (i .due)
 
 -- and what is lent is of its tables
 pub record Lent (s : tie.Start) (a : Area) : Type 0 where
@@ -34,11 +34,15 @@ pub record Lent (s : tie.Start) (a : Area) : Type 0 where
 abbrev start : tie.After-enter-refusal → tie.Start
 start c = c .before .before
 
+-- what the enter names
+abbrev journey : tie.Start → Journey
+journey s = record { route = s .args .route; length = s .args .length }
+
 abbrev tests : tie.Start → Area → List Test
-tests s a = let i = s .args in enterTests a (i .train) (i .route) (i .speed)
+tests s a = let i = s .args in enterTests a (i .train) (journey s) (i .speed)
 
 abbrev new : tie.Start → Area → Area
-new s a = let i = s .args in afterEnter a (i .train) (i .route) (i .speed)
+new s a = let i = s .args in afterEnter a (i .train) (journey s) (i .speed)
 
 -- the refusal's number, and the segment that is entered where it is 0
 decided :
@@ -78,11 +82,11 @@ test-passed :
     (c : tie.Else1) (n : ℕ)
     → let s = start (c .before) in
     let i = s .args in
-    conditionOf n (not (i .found .ok) ⇒ 11 ∷ entryTests (lent s) (i .t9) (i .trains) (i .train) (i .route) (i .speed)) ≡ false
+    conditionOf n (not (i .found .ok) ⇒ 11 ∷ entryTests (lent s) (i .t10) (i .trains) (i .train) (journey s) (i .speed)) ≡ false
 test-passed c n =
     let s = start (c .before) in
     let i = s .args in
-    passed-by (not (i .found .ok) ⇒ 11 ∷ entryTests (lent s) (i .t9) (i .trains) (i .train) (i .route) (i .speed))
+    passed-by (not (i .found .ok) ⇒ 11 ∷ entryTests (lent s) (i .t10) (i .trains) (i .train) (journey s) (i .speed))
     (c .before .enter-refusal .ensures (lent s) refl refl refl refl .0) refl (c .if1 .left) n
 
 cast-t : tie.Need-cast-t

@@ -1,6 +1,7 @@
--- Each part that the code finds broken makes the conjunction false; the tables' part, passed, gives the trains' part what it asks for.
+-- Each part that the code finds broken makes the conjunction false; the tables' part, passed, gives the trains' part what it asks for, and
+-- both give the allocations' part what it rests on.
 use Prim.Native.Nat.{ℕ}
-use mathlib.Core.Path.{_≡_}
+use mathlib.Core.Path.{_≡_, _∙_}
 use mathlib.Core.Bool.{true}
 use lib.ListN.{length}
 use borrow.Author.Tests.{lt-leb, le-leb}
@@ -12,8 +13,9 @@ use Rattle.lists.proofs.Numbered.{long-of}
 use Rattle.tables.specs.Rules.{meets}
 use Rattle.tables.proofs.Consistency.{consistent, meets-iff}
 use Rattle.trains.specs.Train.{mostTrains, trainAt}
-use Rattle.trains.specs.Sound.{trainSound, allocationSound}
+use Rattle.trains.specs.Sound.{trainSound}
 use Rattle.soundness.proofs.Laws.{stopping, tests-same}
+use Rattle.soundness.proofs.Allocations.{allocations-same}
 use Rattle.area.specs.declared.Area.{Area}
 use Rattle.area.specs.Sound.{sound}
 use Rattle.area.proofs.Laws.{found-by}
@@ -85,14 +87,15 @@ returns-3 c =
     found-by (given (s .before)) (rw (met (d .before), le-leb _ _ (d .if2 .left), test-fails (tested (c .before)) (c .if3 .taken))) (s .spots-of .ensures)
 
 returns-4 : tie.Need-returns-4
-unfolding sound allocationSound
+unfolding sound
 returns-4 c =
     let e = c .before .before in
     let d = e .before .before in
     let s = d .before .before .before in
-    found-by (given (s .before))
-    (rw (met (d .before), le-leb _ _ (d .if2 .left), test-holds (tested (e .before)) (e .if3 .left)) (c .allocations-sound .ensures))
-    (s .spots-of .ensures)
+    let a = given (s .before) in
+    let ok = test-holds (tested (e .before)) (e .if3 .left) in
+    let same = allocations-same (a .tables) (consistent _ (meets-iff _ .0 (met (d .before)))) (a .allocations) (a .due) (a .trains) (long (s .before)) (s .spots-of .ensures) ok in
+    found-by a (rw (met (d .before), le-leb _ _ (d .if2 .left), ok) (c .allocations-sound .ensures ∙ same)) (s .spots-of .ensures)
 
 pub examine-spec : {M : Type 1} → statement M
 examine-spec =

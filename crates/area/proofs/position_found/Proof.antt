@@ -1,16 +1,33 @@
--- As for every step; that the record was found sound, test 11 passed, gives each train the room that its move asks for.
-use mathlib.Core.Path.{_≡_, refl, sym, ap}
+-- As for every step; that the record was found sound, test 11 passed, gives each train the room that its move asks for, and that at most
+-- one segment is freed for it.
+use Prim.Native.Nat.{ℕ}
+use mathlib.Core.Path.{_≡_, refl, sym, ap, _∙_}
 use borrow.Author.Needs.{needs}
 use Rattle.lists.specs.Tests.{_⇒_, firstOf}
 use Rattle.trains.specs.Due.{positionDue}
 use mathlib.Core.Bool.{true, not}
-use mathlib.Core.List.{[], _∷_}
+use mathlib.Core.List.{List, [], _∷_}
 use lib.Dec.{eqb}
-use borrow.Author.Tests.{not-false}
+use lib.ListN.{length}
+use borrow.Author.Tests.{eqb-true, not-false}
+use Rattle.lists.specs.Words.{if_then_else_, at, each}
+use Rattle.lists.proofs.Numbered.{long-of}
+use Rattle.tables.proofs.Consistency.{consistent}
+use Rattle.trains.specs.declared.Train.{Train}
+use Rattle.trains.specs.declared.Spot.{Spot}
+use Rattle.trains.specs.Train.{mostTrains, trainAt}
+use Rattle.trains.specs.Cycle.{movedIn, moved, freed}
+use Rattle.trains.proofs.Freed.{sound-movable}
+use Rattle.standing.specs.Spots.{spotsOf, spotAt}
+use Rattle.steps.specs.Left.{leftIn}
+use Rattle.cycle.proofs.Laws.{moved-beside, freed-beside}
 use Rattle.area.specs.declared.Area.{Area}
 use Rattle.area.specs.declared.Examined.{Examined}
+use Rattle.area.specs.Sound.{sound}
+use Rattle.area.specs.SoundFacts.{SoundArea}
 use Rattle.area.specs.Calls.{stepTests, afterPosition, positionCall}
 use Rattle.area.specs.Examined.{Parts}
+use Rattle.area.proofs.Soundness.{sound-iff}
 use Rattle.area.proofs.Laws.{passed-by, refused-by, finished-by, change-by}
 use Rattle.area.proofs.position_found.Statement.{statement}
 use Rattle.area.proofs.position_found.Tie as tie
@@ -37,15 +54,42 @@ was-sound c =
 moved-all-requires : tie.Need-moved-all-requires
 moved-all-requires c κs = c .before .before .before .pre (was-sound (c .before))
 
+long : (s : tie.Start) → length (s .args .trains) ≡ mostTrains
+long s = search long-of
+
+-- what the step makes of the trains and of the allocations of a record that was found sound with position due
+stepped :
+    (a : Area) (spots : List Spot) (new : List Train) (left : List ℕ) → SoundArea a → length (a .trains) ≡ mostTrains → a .due ≡ positionDue
+    → spots ≡ spotsOf (a .tables) (a .allocations) (a .trains)
+    → new ≡ each (λ (t : ℕ) (x : Train). movedIn (spotAt spots t .length) x) (a .trains)
+    → left ≡ each (λ (s h : ℕ). if eqb (at (each (λ (t : ℕ) (x : Train). leftIn (a .tables .routebytes) (a .tables .lengths) (spotAt spots t .rear) x) new) h) s then 0 else h) (a .allocations)
+    → (new ≡ each (λ (t : ℕ). moved (a .tables)) (a .trains)) × (left ≡ each (freed (a .tables) (a .trains)) (a .allocations))
+stepped a spots new left f long due stands moves frees =
+    let T = a .tables in
+    let K = consistent T (f .tables) in
+    let trains = moved-beside T (a .allocations) (a .trains) stands moves in (
+      trains,
+      frees ∙ freed-beside T K (a .allocations) (a .trains) long stands trains
+          (λ t low high on. sound-movable T K (a .allocations) t (trainAt (a .trains) t) on (rw due at (f .ons t low high on))) (f .offs),
+    )
+
 returns-2 : tie.Need-returns-2
 unfolding positionCall afterPosition
 returns-2 c a h e f =
-    let r = c .before in
-    let p = r .before in
-    let allocations = rw (h .trains, h .allocations) at (r .released-all .ensures (a .tables) (sym e) (sym f)) in
-    let trains = rw (h .trains, e, f) at (c .moved-all .ensures) in
-    change-by 0 (record { tables = a .tables; allocations = r .released-all .result; trains = c .moved-all .result; due = 0 })
-    (finished-by (stepTests positionDue a) (refusal (p .before) a h) (afterPosition a) a refl (p .if1 .left) (simp (trains, allocations)))
+    let m = c .before in
+    let p = m .before .before in
+    let s = p .before .before in
+    let number = refusal (p .before) a h in
+    let ok : sound a ≡ true = not-false _ (passed-by (stepTests positionDue a) number refl (p .if1 .left) 11) in
+    let due : a .due ≡ positionDue = eqb-true _ _ (not-false _ (passed-by (stepTests positionDue a) number refl (p .if1 .left) 12)) in
+    let many : length (a .trains) ≡ mostTrains = sym (ap length (h .trains)) ∙ long s in
+    let both =
+    stepped a (s .args .found .spots) (m .moved-all .result) (c .released-all .result) (sound-iff a many .0 ok) many due
+    (ap (λ (x : Examined). x .spots) (h .found))
+    (rw (h .trains) at (m .moved-all .ensures))
+    (rw (h .allocations, e, f) at (c .released-all .ensures)) in
+    change-by 0 (record { tables = a .tables; allocations = c .released-all .result; trains = m .moved-all .result; due = 0 })
+    (finished-by (stepTests positionDue a) number (afterPosition a) a refl (p .if1 .left) (simp (both .0, both .1)))
 
 pub position-found-spec : {M : Type 1} → statement M
-position-found-spec = tie.close (tie.spec (λ c κs. search needs) returns (λ c κs. search needs) moved-all-requires returns-2)
+position-found-spec = tie.close (tie.spec (λ c κs. search needs) returns moved-all-requires (λ c κs. search needs) returns-2)

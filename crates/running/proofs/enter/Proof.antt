@@ -10,7 +10,7 @@ unfolding called
 returns c =
     let e = c .before .before .before .before .before in
     let i = e .before .before .before .before .before .before .before .before .before .before .before .args in
-    answered (i .t1) (Enter (i .train) (i .route) (i .speed)) _
+    answered (i .t1) (Enter (i .train) (record { route = i .route; length = i .length }) (i .speed)) _
     (c .enter-found .ensures (i .t1) (record { found = e .examine .ensures; allocations = refl; trains = refl; due = refl }) refl refl refl refl)
 
 pub enter-spec : {M : Type 1} → statement M

@@ -20,6 +20,9 @@ item-at-requires-3 c κs = search needs
 item-at-requires-4 : tie.Need-item-at-requires-4
 item-at-requires-4 c κs = search needs
 
+item-at-requires-5 : tie.Need-item-at-requires-5
+item-at-requires-5 c κs = search needs
+
 enter-requires : tie.Need-enter-requires
 enter-requires c κs = search needs
 
@@ -44,9 +47,17 @@ position-requires c κs = search needs
 returns : tie.Need-returns
 unfolding called callOf
 returns c =
-    let m = c .before .before .before in
+    let l = c .before in
+    let m = l .before .before .before in
     let w = m .before .before in
-    simp (sym (w .item-at .ensures) ∙ m .match .keys1, c .enter .ensures, c .before .item-at4 .ensures, c .before .before .item-at3 .ensures, m .before .item-at2 .ensures)
+    simp (
+      sym (w .item-at .ensures) ∙ m .match .keys1,
+      c .enter .ensures,
+      l .item-at5 .ensures,
+      l .before .item-at4 .ensures,
+      l .before .before .item-at3 .ensures,
+      m .before .item-at2 .ensures,
+    )
 
 returns-2 : tie.Need-returns-2
 unfolding called callOf
@@ -92,6 +103,7 @@ call-spec =
     item-at-requires-2
     item-at-requires-3
     item-at-requires-4
+    item-at-requires-5
     enter-requires
     leave-requires
     wishes-of-requires

@@ -1,112 +1,81 @@
--- Each allocation is tested with the train in its holder's slot, which plays no part where the holder is no train; the first that fails
--- makes the test of all false.
+-- After each turn what the trains so far may hold is taken away.
 use Prim.Native.Nat.{ℕ, _+_, _-_, _≤_}
-use mathlib.Core.Path.{_≡_, sym}
-use mathlib.Core.Bool.{Bool, true, _||_}
+use mathlib.Core.Path.{_≡_, refl, sym, ap, _∙_}
+use mathlib.Core.Bool.{Bool, _||_}
 use mathlib.Core.List.{List}
 use native.Mathlib.Omega.{arith}
 use lib.Dec.{eqb}
-use lib.ListN.{length, getD}
-use denote.Ref.{now}
+use lib.ListN.{length}
 use borrow.Author.Needs.{needs}
-use Rattle.lists.specs.Words.{at, every}
-use Rattle.lists.proofs.Cases.{test-fails, test-holds}
-use Rattle.lists.proofs.Loops.{every-none, every-more, every-fails}
-use Rattle.lists.proofs.Numbered.{nth-index, long-of}
+use Rattle.lists.specs.Words.{if_then_else_, at, some}
+use Rattle.lists.proofs.Loops.{every-same}
+use Rattle.lists.proofs.Numbered.{nth-index, nth-each-in, length-each}
+use Rattle.lists.proofs.Some.{none-some, some-next}
 use Rattle.tables.specs.Bounds.{mostSegments}
 use Rattle.trains.specs.declared.Train.{Train}
-use Rattle.trains.specs.Sound.{holderSound}
-use Rattle.trains.specs.Train.{mostTrains, trainAt}
-use Rattle.soundness.proofs.Laws.{holder-sound}
+use Rattle.trains.specs.declared.Spot.{Spot}
+use Rattle.trains.specs.Train.{mostTrains, off, trainAt}
+use Rattle.standing.specs.Spots.{noSpot, spotAt}
+use Rattle.soundness.specs.Covered.{covers}
+use Rattle.soundness.proofs.Taken.{without, without-none, without-same, without-both}
 use Rattle.soundness.proofs.allocations_sound.Statement.{statement}
 use Rattle.soundness.proofs.allocations_sound.Tie as tie
 
-abbrev sound : (routebytes : List ℕ) (N : ℕ) (allocations : List ℕ) → List Train → ℕ → Bool
-sound routebytes N allocations trains s = eqb (at allocations s) 0 || holderSound N routebytes (trainAt trains (at allocations s)) s
+-- one of the trains 1 to n covers segment s
+abbrev covered : (routebytes : List ℕ) → List Spot → List Train → (n s : ℕ) → Bool
+covered routebytes spots trains n s = some n (λ (t : ℕ). covers routebytes (spotAt spots t) (trainAt trains t) s)
 
 abbrev Inv-loop : tie.InvT-loop
-Inv-loop routebytes segments allocations trains i₀ i = (i ≤ mostSegments) × (every i (sound routebytes segments allocations trains) ≡ true)
+Inv-loop routebytes spots trains left₀ i₀ left i =
+    (i ≤ mostTrains) × (left ≡ without (covered routebytes spots trains i) left₀)
 
 abbrev μ-loop : tie.MeasureT-loop
-μ-loop routebytes segments allocations trains i₀ i = mostSegments - i
+μ-loop routebytes spots trains left₀ i₀ left i = mostTrains - i
 
-loop-holds : tie.Need-loop-holds Inv-loop μ-loop
-loop-holds c = (omega arith, every-none _)
+-- one train more
+more :
+    (routebytes : List ℕ) (spots : List Spot) (trains : List Train) (i : ℕ) (p : Spot) (x : Train) (l left new : List ℕ)
+    → spotAt spots (i + 1) ≡ p → trainAt trains (i + 1) ≡ x
+    → left ≡ without (covered routebytes spots trains i) l → new ≡ without (covers routebytes p x) left
+    → new ≡ without (covered routebytes spots trains (i + 1)) l
+more routebytes spots trains i p x l left new stands is so next =
+    let before = covered routebytes spots trains i in
+    let one-more : (s : ℕ) → (before s || covers routebytes p x s) ≡ covered routebytes spots trains (i + 1) s =
+    λ s. rw (some-next (λ (t : ℕ). covers routebytes (spotAt spots t) (trainAt trains t) s) i, stands, is) in
+    next ∙ (ap (without (covers routebytes p x)) so ∙ (without-both l before (covers routebytes p x) ∙ without-same l _ _ one-more))
 
-array-read-h : tie.Need-array-read-h Inv-loop μ-loop
-array-read-h c = search needs
-
-slot-of-requires : tie.Need-slot-of-requires Inv-loop μ-loop
-slot-of-requires c κs = search needs
-
-mul-x : tie.Need-mul-x Inv-loop μ-loop
-mul-x c = let f = c .slot-of .ensures .0 in omega arith
-
-array-copy-out-x : tie.Need-array-copy-out-x Inv-loop μ-loop
-array-copy-out-x c = let f = c .slot-of .ensures .0 in omega arith
-
-add-allocation-sound : tie.Need-add-allocation-sound Inv-loop μ-loop
-add-allocation-sound c = omega arith
-
-cast-allocation-sound : tie.Need-cast-allocation-sound Inv-loop μ-loop
-cast-allocation-sound c = omega arith
-
-allocation-sound-requires : tie.Need-allocation-sound-requires Inv-loop μ-loop
-allocation-sound-requires c κs = search needs
-
-abbrev turn : tie.After-allocation-sound Inv-loop μ-loop → tie.In-loop Inv-loop μ-loop
-turn c = c .before .before .before
-
-here :
-    (c : tie.After-allocation-sound Inv-loop μ-loop)
-    → let a = turn c .before .before .args in
-    c .allocation-sound .result ≡ sound (now (a .routebytes)) (a .segments) (a .t3) (a .t4) (turn c .before .loop .i + 1)
-here c =
-    let a = turn c .before .before .args in
-    let i = turn c .before .loop .i in
-    let k = c .before .before .slot-of in
-    let n : length (a .t4) ≡ mostTrains = search long-of in
-    let same = holder-sound (a .segments) (now (a .routebytes)) (a .t4) (i + 1) (getD (a .t3) i 0) (k .result) n (k .ensures .1) in
-    rw nth-index (rw same at (c .allocation-sound .ensures))
-
-returns : tie.Need-returns Inv-loop μ-loop
-returns c =
-    let t = turn (c .before) in
-    let a = t .before .before .args in
-    sym (every-fails (sound (now (a .routebytes)) (a .segments) (a .t3) (a .t4)) mostSegments (t .before .loop .i + 1) (omega arith) (omega arith) (test-fails (here (c .before)) (c .if1 .taken)))
-
-add-i : tie.Need-add-i Inv-loop μ-loop
-add-i c = omega arith
-
-loop-less : tie.Need-loop-less Inv-loop μ-loop
-loop-less c = omega arith
+slice-aggregate-take-train : tie.Need-slice-aggregate-take-train Inv-loop μ-loop
+slice-aggregate-take-train c =
+    let l = c .before .before .before .before in
+    let long : length (l .before .args .allocations) ≡ 62 = search needs in
+    let e : length (l .loop .left) ≡ 62 = ap length (l .loop .inv .1) ∙ (length-each _ _ ∙ long) in
+    search needs
 
 loop-again : tie.Need-loop-again Inv-loop μ-loop
 loop-again c =
-    (omega arith, every-more _ _ (turn (c .before) .before .loop .inv .1) (test-holds (here (c .before)) (c .if1 .left)))
+    let t = c .before in
+    let l = t .before .before .before .before .before in
+    let a = l .before .args in
+    (omega arith, more _ (a .t3) (a .t4) (l .loop .i) _ _ _ _ _ (nth-index noSpot _ _) (nth-index off _ _) (l .loop .inv .1) (t .take-train .ensures))
 
-returns-2 : tie.Need-returns-2 Inv-loop μ-loop
-returns-2 c =
-    let l = c .before .loop in
-    let e : l .i ≡ mostSegments = omega arith in
-    sym (rw e at (l .inv .1))
+-- the allocations without what all trains may hold
+over :
+    (routebytes A left : List ℕ) (spots : List Spot) (trains : List Train) (s : ℕ) → length A ≡ 62 → 1 ≤ s → s ≤ mostSegments
+    → left ≡ without (covered routebytes spots trains mostTrains) A
+    → eqb (at left s) 0 ≡ eqb (if covered routebytes spots trains mostTrains s then 0 else at A s) 0
+over routebytes A left spots trains s long low high e =
+    ap (λ (h : ℕ). eqb h 0) (ap (λ (l : List ℕ). at l s) e ∙ nth-each-in 0 0 _ A s low (omega arith))
+
+returns : tie.Need-returns Inv-loop μ-loop
+returns c =
+    let l = c .before .before .before in
+    let long : length (l .before .args .allocations) ≡ 62 = search needs in
+    let e : l .loop .i ≡ mostTrains = omega arith in
+    c .none-left .ensures ∙ every-same mostSegments _ _ (λ s low high. over _ _ _ _ _ s long low high (rw e at (l .loop .inv .1)))
 
 pub allocations-sound-spec : {M : Type 1} → statement M
 allocations-sound-spec =
     tie.close
-    (tie.spec
-    Inv-loop
-    μ-loop
-    loop-holds
-    array-read-h
-    slot-of-requires
-    mul-x
-    array-copy-out-x
-    add-allocation-sound
-    cast-allocation-sound
-    allocation-sound-requires
-    returns
-    add-i
-    loop-less
-    loop-again
-    returns-2)
+    (tie.spec Inv-loop μ-loop (λ c. (omega arith, sym (without-none _ _ (λ s. none-some _ 0 (λ k low high. absurd (omega arith))))))
+    (λ c. omega arith) (λ c. omega arith) (λ c. omega arith) (λ c. omega arith) slice-aggregate-take-train (λ c κs. search needs) (λ c. omega arith)
+    (λ c. omega arith) loop-again (λ c κs. search needs) returns)

@@ -1,4 +1,4 @@
--- The twelve bytes that hold something are put into a row of zeros.
+-- The fourteen bytes that hold something are put into a row of zeros.
 use mathlib.Core.Path.{_∙_}
 use borrow.Author.Needs.{needs}
 use Rattle.state.proofs.Laws.{train-put}
@@ -7,14 +7,15 @@ use Rattle.state.proofs.train_bytes.Tie as tie
 
 returns : tie.Need-returns
 returns c =
-    let n = c .before .before .before .before in
+    let l = c .before .before .before .before in
+    let n = l .before in
     let v = n .before in
     let p = v .before in
-    c .before .put .ensures ∙ train-put (p .before .args .x) (p .four .ensures) (v .two .ensures) (n .two2 .ensures)
+    c .before .put .ensures ∙ train-put (p .before .args .x) (p .four .ensures) (v .two .ensures) (n .two2 .ensures) (l .two3 .ensures)
 
 pub train-bytes-spec : {M : Type 1} → statement M
 train-bytes-spec =
     tie.close
-    (tie.spec (λ c κs. search needs) (λ c κs. search needs) (λ c κs. search needs) (λ c. search needs) (λ c. search needs) (λ c. search needs)
+    (tie.spec (λ c κs. search needs) (λ c κs. search needs) (λ c κs. search needs) (λ c κs. search needs) (λ c. search needs) (λ c. search needs)
     (λ c. search needs) (λ c. search needs) (λ c. search needs) (λ c. search needs) (λ c. search needs) (λ c. search needs) (λ c. search needs)
-    (λ c κs. search needs) returns)
+    (λ c. search needs) (λ c. search needs) (λ c. search needs) (λ c κs. search needs) returns)

@@ -56,10 +56,20 @@ add-two-at-2 c = search needs
 two-at-requires-2 : tie.Need-two-at-requires-2
 two-at-requires-2 c κs = search needs
 
+cast-two-at-3 : tie.Need-cast-two-at-3
+cast-two-at-3 c = search needs
+
+add-two-at-3 : tie.Need-add-two-at-3
+add-two-at-3 c = search needs
+
+two-at-requires-3 : tie.Need-two-at-requires-3
+two-at-requires-3 c κs = search needs
+
 returns : tie.Need-returns
 unfolding trainOf
 returns c =
-    let q = c .before in
+    let n = c .before in
+    let q = n .before in
     let v = q .before in
     let p = v .before in
     let k = p .before in
@@ -72,7 +82,8 @@ returns c =
       p .four-at .ensures,
       v .two-at .ensures,
       q .byte3 .ensures,
-      c .two-at2 .ensures,
+      n .two-at2 .ensures,
+      c .two-at3 .ensures,
       add-zero,
     ))
 
@@ -96,4 +107,7 @@ train-of-spec =
     cast-two-at-2
     add-two-at-2
     two-at-requires-2
+    cast-two-at-3
+    add-two-at-3
+    two-at-requires-3
     returns)

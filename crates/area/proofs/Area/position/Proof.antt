@@ -19,7 +19,7 @@ position-found-requires : tie.Need-position-found-requires
 position-found-requires c κs ok =
     let e = c .before .before .before in
     let s = e .before .before .before .before .before .before .before .before .before .before .before in
-    room-of (s .args .t1) (sound-iff (s .args .t1) .0 (sym (ap (λ (x : Examined). x .ok) (e .examine .ensures)) ∙ ok)) (long s)
+    room-of (s .args .t1) (sound-iff (s .args .t1) (long s) .0 (sym (ap (λ (x : Examined). x .ok) (e .examine .ensures)) ∙ ok)) (long s)
 
 returns : tie.Need-returns
 unfolding positionCall afterPosition
