@@ -174,15 +174,15 @@ uint8_t rbu_write(const struct rbu_area *area, uint8_t *buffer, size_t buffer_le
 // thousands of calls and every answer among them. The figures have a quarter to spare; the tests measure it again and hold them to it
 // (.ci/stack.c). RBU_STACK_CALL is for each function of a running unit but rbu_start and rbu_write.
 #define RBU_STACK_START 14336
-#define RBU_STACK_CALL 7168
-#define RBU_STACK_WRITE 11264
+#define RBU_STACK_CALL 9216
+#define RBU_STACK_WRITE 13312
 #define RBU_STACK_LOAD 11264
 #define RBU_STACK_VIEW 11264
-#define RBU_STACK_RUN_FILE 22528
-#define RBU_STACK_RUN_RECORD 19456
+#define RBU_STACK_RUN_FILE 25600
+#define RBU_STACK_RUN_RECORD 21504
 #define RBU_STACK_SOUND 11264
 #define RBU_STACK_REPORT_RECORD 14336
-#define RBU_STACK_WRITE_RECORD 11264
+#define RBU_STACK_WRITE_RECORD 13312
 #define RBU_STACK_BRAKING_DISTANCE 1024
 
 // ---- files

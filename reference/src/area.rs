@@ -1,10 +1,11 @@
 //! The calls.
 //!
-//! In a running area a train keeps one number for where it is: its way since its enter. Its
-//! place in the route and its position are worked out from the way and the summed lengths.
+//! In a running area a train keeps one number for where it is: its way since its enter, which is
+//! its front's. Its place in the route, its position and, with its length, what is under it are
+//! worked out from the way and the summed lengths.
 
 use crate::file::{read, read_within, Refusal};
-use crate::numbers::{Bounds, LAST_COUNT, SEGMENTS, TRAINS, WISHES};
+use crate::numbers::{Bounds, LAST_COUNT, LONGEST_TRAIN, SEGMENTS, TRAINS, WISHES};
 use crate::record::{sound, RawTrain, Record, GRANT, POSITION, REQUEST, SPEED};
 use crate::send::send;
 use crate::tables::{Tables, ENTRY, EXIT};
@@ -17,6 +18,7 @@ struct Train {
     speed: u16,
     asks: bool,
     count: u16,
+    length: u16,
 }
 
 /// What follows from a train's way: its place in the route (from 1), its position, its own
@@ -33,16 +35,9 @@ struct Whereabouts {
 /// start." None if the way is beyond the route's end, which no sound area has.
 fn whereabouts(tables: &Tables, train: &Train) -> Option<Whereabouts> {
     let listed = tables.route(train.route).listed();
-    let mut start = 0;
-    for (index, &own) in listed.iter().enumerate() {
-        let end = start + u64::from(tables.segment(own).length);
-        if train.way < end {
-            let position = (train.way - start) as u32;
-            return Some(Whereabouts { place: index as u8 + 1, position, own, next: listed.get(index + 1).copied() });
-        }
-        start = end;
-    }
-    None
+    let (index, own) = tables.stretches(train.route).enumerate().find(|(_, segment)| train.way < segment.end)?;
+    let position = (train.way - own.start) as u32;
+    Some(Whereabouts { place: index as u8 + 1, position, own: listed[index], next: listed.get(index + 1).copied() })
 }
 
 /// R-2 of document 02: "the highest count wins, and equal counts go to the higher train number". Of two trains, each with its count
@@ -63,7 +58,7 @@ pub struct Area {
 /// One of the six calls with its arguments.
 #[derive(Clone, Copy, PartialEq, Eq, Debug)]
 pub enum Call<'a> {
-    Enter { train: u16, route: u16, speed: u16 },
+    Enter { train: u16, route: u16, speed: u16, length: u16 },
     Leave { train: u16 },
     Speed { wishes: &'a [u16] },
     Request,
@@ -110,8 +105,7 @@ pub fn report_on(record: &Record) -> (u8, u32, u32) {
 }
 
 impl Area {
-    /// The running area of a sound record, None of an unsound one. The way of a train is the
-    /// summed lengths of the segments before its place, and its position.
+    /// The running area of a sound record, None of an unsound one.
     pub fn from_record(record: &Record) -> Option<Area> {
         if !sound(record) {
             return None;
@@ -119,10 +113,8 @@ impl Area {
         let tables = record.tables;
         let trains = record.trains.map(|raw| {
             raw.is_on().then(|| {
-                let passed = &tables.route(raw.route).listed()[..usize::from(raw.place) - 1];
-                let start: u64 = passed.iter().map(|&segment| u64::from(tables.segment(segment).length)).sum();
-                let way = start + u64::from(raw.position);
-                Train { route: raw.route, way, speed: raw.speed, asks: raw.asks == 1, count: raw.count }
+                let RawTrain { route, speed, asks, count, length, .. } = raw;
+                Train { route, way: raw.way(&tables), speed, asks: asks == 1, count, length }
             })
         });
         Some(Area { tables, allocations: record.allocations, trains, due: record.due })
@@ -135,7 +127,8 @@ impl Area {
             Some(train) => {
                 // A way beyond the route's end would show as place 0, which is unsound.
                 let (place, position) = whereabouts(&self.tables, &train).map_or((0, 0), |at| (at.place, at.position));
-                RawTrain { route: train.route, place, position, speed: train.speed, asks: u8::from(train.asks), count: train.count }
+                let Train { route, speed, asks, count, length, .. } = train;
+                RawTrain { route, place, position, speed, asks: asks.into(), count, length }
             }
         });
         Record { tables: self.tables, allocations: self.allocations, trains, due: self.due }
@@ -147,7 +140,7 @@ impl Area {
 
     pub fn call(&mut self, call: &Call) -> u8 {
         match *call {
-            Call::Enter { train, route, speed } => self.enter(train, route, speed),
+            Call::Enter { train, route, speed, length } => self.enter(train, route, speed, length),
             Call::Leave { train } => self.leave(train),
             Call::Speed { wishes } => self.speed(wishes),
             Call::Request => self.request(),
@@ -156,8 +149,9 @@ impl Area {
         }
     }
 
-    /// "Enter: 11, 13, 14, 16, 17, 18, 19."
-    pub fn enter(&mut self, train: u16, route: u16, speed: u16) -> u8 {
+    /// "Enter: 11, 13, 14, 16, 17, 18, 19."; R-4 of document 02: "23 .., after 16".
+    // reading: directly after 16, before 17.
+    pub fn enter(&mut self, train: u16, route: u16, speed: u16, length: u16) -> u8 {
         if !self.is_sound() {
             return 11;
         }
@@ -173,6 +167,10 @@ impl Area {
         if !(1..=u16::from(self.tables.r)).contains(&route) {
             return 16;
         }
+        // 23 "length outside the bounds"
+        if !(1..=LONGEST_TRAIN).contains(&length) {
+            return 23;
+        }
         let (train, route) = (train as u8, route as u8);
         let first = self.tables.route(route).numbers[0];
         // 17 "route's first segment lacks the entry flag"
@@ -187,8 +185,8 @@ impl Area {
         if speed > self.tables.segment(first).limit {
             return 19;
         }
-        // "position 0 of the first segment, which becomes allocated"; R-2: "the count is 0 at enter"
-        self.trains[usize::from(train) - 1] = Some(Train { route, way: 0, speed, asks: false, count: 0 });
+        // "position 0 of the first segment, which becomes allocated"; R-2: "the count is 0 at enter"; the rest of the train is outside
+        self.trains[usize::from(train) - 1] = Some(Train { route, way: 0, speed, asks: false, count: 0, length });
         self.allocate(first, train);
         0
     }
@@ -211,7 +209,7 @@ impl Area {
         if at.next.is_some() || self.tables.segment(at.own).flags & EXIT == 0 {
             return 20;
         }
-        // "the train goes off; all allocated to it is freed"
+        // "the train goes off; all allocated to it is freed"; R-4: "frees all of it"
         self.trains[usize::from(train) - 1] = None;
         for allocation in &mut self.allocations {
             if u16::from(*allocation) == train {
@@ -313,13 +311,15 @@ impl Area {
         if let Some(number) = self.turned_away(POSITION) {
             return number;
         }
-        // "position + speed. At or above the length it moves on: length subtracted, old
-        // segment freed." The way grows by the speed; the rest follows from the way.
-        self.each_train_on(|area, _, train, old| {
+        // "position + speed. At or above the length it moves on: length subtracted": the way grows
+        // by the speed, and the rest follows from the way. R-4: a segment "is freed only then, at
+        // position", when it was under the train and no longer is.
+        self.each_train_on(|area, _, train, _| {
+            let before = area.under(train);
             train.way += u64::from(train.speed);
-            if u64::from(old.position) + u64::from(train.speed) >= u64::from(area.tables.segment(old.own).length) {
-                area.allocate(old.own, 0);
-            }
+            let after = area.under(train);
+            let freed: Vec<u8> = before.iter().filter(|segment| !after.contains(segment)).copied().collect();
+            freed.into_iter().for_each(|segment| area.allocate(segment, 0));
         });
         self.due = SPEED;
         0
@@ -374,6 +374,11 @@ impl Area {
 
     fn whereabouts(&self, train: &Train) -> Whereabouts {
         whereabouts(&self.tables, train).expect("a train of a sound record has an own segment")
+    }
+
+    /// The segments under a train.
+    fn under(&self, train: &Train) -> &[u8] {
+        self.tables.under(train.route, train.way, train.length)
     }
 
     /// "Near means position ≥ length − `d`."

@@ -3,7 +3,7 @@
 
 use crate::area::{cycle, Call};
 use crate::file::decode_tables;
-use crate::numbers::{Bounds, LONGEST, TOP_SPEED, WISHES};
+use crate::numbers::{Bounds, LONGEST, LONGEST_TRAIN, TOP_SPEED, WISHES};
 use crate::random::{area, area_with, speeds_to, Random, Speeds};
 use crate::record::{RawTrain, Record, GRANT, POSITION, REQUEST, SPEED};
 use crate::write::{like_area_a, Description};
@@ -109,14 +109,16 @@ pub struct Greatest {
     pub after: Option<Stand>,
 }
 
-/// Where the train is, and whether it asks for segment 3 or has it.
+/// The train's length, where its front is, whether it asks for segment 3 or has it, and whether segment 1 is allocated to it.
 #[derive(Clone, Copy)]
 pub struct Stand {
+    pub length: u16,
     pub place: u8,
     pub position: u32,
     pub speed: u16,
     pub asks: bool,
-    pub has_next: bool,
+    pub has_3: bool,
+    pub has_1: bool,
 }
 
 impl Greatest {
@@ -136,13 +138,10 @@ impl Greatest {
         let tables = decode_tables(&self.area().file());
         let record = |due: u8, stand: &Stand| {
             let mut record = Record { due, ..Record::loaded(tables) };
-            let &Stand { place, position, speed, asks, has_next } = stand;
-            record.trains[usize::from(number) - 1] = RawTrain { route: 1, place, position, speed, asks: asks.into(), count: 0 };
-            if place == 1 {
-                record.allocations[0] = number;
-            }
-            if place == 2 || has_next {
-                record.allocations[2] = number;
+            let &Stand { length, place, position, speed, asks, has_3, has_1 } = stand;
+            record.trains[usize::from(number) - 1] = RawTrain { route: 1, place, position, speed, asks: asks.into(), count: 0, length };
+            for (segment, has_it) in [has_1, false, has_3].into_iter().enumerate() {
+                record.allocations[segment] = if has_it { number } else { 0 };
             }
             record
         };
@@ -154,13 +153,13 @@ impl Greatest {
     }
 }
 
-/// On segment 1, on segment 1 with segment 3, asking for segment 3, and on segment 3.
+/// A train of length 1 on segment 1, on segment 1 with segment 3, asking for segment 3, and on segment 3.
 const fn on_1(position: u32, speed: u16) -> Stand {
-    Stand { place: 1, position, speed, asks: false, has_next: false }
+    Stand { length: 1, place: 1, position, speed, asks: false, has_3: false, has_1: true }
 }
 
 const fn with_3(position: u32, speed: u16) -> Stand {
-    Stand { has_next: true, ..on_1(position, speed) }
+    Stand { has_3: true, ..on_1(position, speed) }
 }
 
 const fn asking(position: u32, speed: u16) -> Stand {
@@ -168,7 +167,17 @@ const fn asking(position: u32, speed: u16) -> Stand {
 }
 
 const fn on_3(position: u32, speed: u16) -> Stand {
-    Stand { place: 2, ..on_1(position, speed) }
+    Stand { place: 2, has_1: false, ..with_3(position, speed) }
+}
+
+/// On segment 3 with segment 1.
+const fn on_3_and_1(position: u32, speed: u16) -> Stand {
+    Stand { has_1: true, ..on_3(position, speed) }
+}
+
+/// The same as the longest train.
+const fn longest(stand: Stand) -> Stand {
+    Stand { length: LONGEST_TRAIN, ..stand }
 }
 
 /// S(2000) = 2,001,000 and B(2000) = 1,999,000, and `d` is that S; S(2000) = 2000, and `d` is the greatest; `gmax` 1 and its greatest `d`.
@@ -179,13 +188,20 @@ const SLOW: Speeds = (1, 1, 3_999_998);
 // one to a line, as a table
 #[rustfmt::skip]
 pub const GREATEST: &[Greatest] = &[
-    // "position + speed. At or above the length it moves on: length subtracted, old segment freed."
+    // "position + speed. At or above the length it moves on: length subtracted"; R-4: the old segment is freed when "the rear is at or past
+    // its end"
     Greatest { name: "position 3,997,999 + speed 2000", speeds: WIDE, due: POSITION, before: with_3(3_997_999, 2000), after: Some(with_3(3_999_999, 2000)) },
-    Greatest { name: "position 3,998,000 + speed 2000", speeds: WIDE, due: POSITION, before: with_3(3_998_000, 2000), after: Some(on_3(0, 2000)) },
+    Greatest { name: "position 3,998,000 + speed 2000", speeds: WIDE, due: POSITION, before: with_3(3_998_000, 2000), after: Some(on_3_and_1(0, 2000)) },
     Greatest { name: "position 3,999,999 + speed 2000", speeds: WIDE, due: POSITION, before: with_3(3_999_999, 2000), after: Some(on_3(1999, 2000)) },
     Greatest { name: "position 3,999,999 + speed 2000, b 1", speeds: LONG, due: POSITION, before: with_3(3_999_999, 2000), after: Some(on_3(1999, 2000)) },
     Greatest { name: "position 3,999,998 + speed 1", speeds: SLOW, due: POSITION, before: with_3(3_999_998, 1), after: Some(with_3(3_999_999, 1)) },
-    Greatest { name: "position 3,999,999 + speed 1", speeds: SLOW, due: POSITION, before: with_3(3_999_999, 1), after: Some(on_3(0, 1)) },
+    Greatest { name: "position 3,999,999 + speed 1", speeds: SLOW, due: POSITION, before: with_3(3_999_999, 1), after: Some(on_3_and_1(0, 1)) },
+    Greatest { name: "from position 0 by speed 1", speeds: SLOW, due: POSITION, before: on_3_and_1(0, 1), after: Some(on_3(1, 1)) },
+    Greatest { name: "position 3,999,999 + speed 2000, length 20,000", speeds: WIDE, due: POSITION, before: longest(with_3(3_999_999, 2000)), after: Some(longest(on_3_and_1(1999, 2000))) },
+    Greatest { name: "rear to 3,999,999, length 20,000", speeds: WIDE, due: POSITION, before: longest(on_3_and_1(17_999, 2000)), after: Some(longest(on_3_and_1(19_999, 2000))) },
+    Greatest { name: "rear to 4,000,000, length 20,000", speeds: WIDE, due: POSITION, before: longest(on_3_and_1(18_000, 2000)), after: Some(longest(on_3(20_000, 2000))) },
+    Greatest { name: "rear at 3,999,999, segment 1 free", speeds: WIDE, due: POSITION, before: longest(on_3(19_999, 0)), after: None },
+    Greatest { name: "rear at 4,000,000, segment 1 allocated", speeds: WIDE, due: POSITION, before: longest(on_3_and_1(20_000, 0)), after: None },
     Greatest { name: "position 4,000,000", speeds: WIDE, due: POSITION, before: with_3(4_000_000, 2000), after: None },
     // "position + S(speed) < length with another step due"
     Greatest { name: "position 1,998,999 + S(2000) = 3,999,999, request due", speeds: LONG, due: REQUEST, before: on_1(1_998_999, 2000), after: Some(on_1(1_998_999, 2000)) },

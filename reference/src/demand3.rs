@@ -5,13 +5,16 @@
 //! on is allocated to it and its speed isn't above the limit there; every allocated segment is one that its train is on or was granted
 //! next; every train, braking fully from the next speed step on, stops within the segments then allocated to it."
 //!
-//! It shares with the calls only the tables, S and B. It keeps for itself which trains are on, their routes, their ways and what was
-//! granted to them. Speeds, step due and allocations are those of the record handed back: the comparison holds them, and the answers,
-//! against the second program's after each call.
+//! R-4 of document 02: "'On a segment' now means that it is under the train ... The speed limit remains that of the front's segment, and
+//! a train's own segment and its next are still reckoned from the front."
+//!
+//! It shares with the calls only the tables, S and B. It keeps for itself which trains are on, their routes, their lengths, their ways and
+//! what was granted to them. Speeds, step due and allocations are those of the record handed back: the comparison holds them, and the
+//! answers, against the second program's after each call.
 
 use crate::area::Call;
 use crate::braking::{b_rest, s};
-use crate::numbers::{SEGMENTS, TRAINS};
+use crate::numbers::{LONGEST_TRAIN, SEGMENTS, TRAINS};
 use crate::record::{Record, SPEED};
 use crate::tables::Tables;
 
@@ -31,6 +34,7 @@ pub struct Demand3 {
 #[derive(Clone, Copy)]
 struct Train {
     route: u8,
+    length: u16,
     way: u64,
     /// segment number k at index k − 1: a grant step since the enter allocated it to the train
     granted: [bool; SEGMENTS as usize],
@@ -43,6 +47,8 @@ struct Own<'a> {
     segment: u8,
     place: usize,
     position: u64,
+    /// what it is on: its own segment and those behind that are under it
+    under: Vec<u8>,
     /// the segments that come after its own in its route
     following: &'a [u8],
 }
@@ -78,13 +84,13 @@ impl Demand3 {
             self.ways_grow(call, &handed_in);
             self.grants(call, &handed_in);
         }
-        self.same_trains_on_and_routes()?;
+        self.same_trains_on_routes_and_lengths()?;
         let owns = self.own_segments()?;
         self.same_places_and_positions(&owns)?;
         self.no_two_trains_on_one_segment(&owns)?;
-        self.own_segments_allocated(&owns)?;
+        self.segments_under_allocated(&owns)?;
         self.speeds_within_limits(&owns)?;
-        self.allocated_is_own_or_granted_next(&owns)?;
+        self.allocated_is_under_or_granted_next(&owns)?;
         self.every_train_stops(&owns)
     }
 }
@@ -96,8 +102,8 @@ impl Demand3 {
     /// "A train's way is 0 at that enter ..": and nothing was granted to it since.
     fn trains_on(&mut self, call: &Call) {
         match *call {
-            Call::Enter { train, route, .. } => {
-                let entered = Train { route: route as u8, way: 0, granted: [false; SEGMENTS as usize] };
+            Call::Enter { train, route, length, .. } => {
+                let entered = Train { route: route as u8, length, way: 0, granted: [false; SEGMENTS as usize] };
                 self.trains[usize::from(train) - 1] = Some(entered);
             }
             Call::Leave { train } => self.trains[usize::from(train) - 1] = None,
@@ -112,9 +118,11 @@ impl Demand3 {
         let is_on = |train: u16| is_train(train) && self.trains[usize::from(train) - 1].is_some();
         match (*call, answer) {
             (_, 11) => Err("an answer is 11, unsound".to_string()),
-            (Call::Enter { train, route, .. }, 0) => {
+            (Call::Enter { train, route, length, .. }, 0) => {
                 let there_are = is_train(train) && (1..=u16::from(self.tables.r)).contains(&route);
                 holds(there_are, || format!("enter of train {train} on route {route} is answered done"))?;
+                let within = (1..=LONGEST_TRAIN).contains(&length);
+                holds(within, || format!("enter of train {train} with length {length} is answered done"))?;
                 holds(!is_on(train), || format!("enter of train {train} is answered done while it is on"))
             }
             (Call::Leave { train }, 0) => holds(is_on(train), || format!("leave of train {train} is answered done while it is off")),
@@ -122,16 +130,19 @@ impl Demand3 {
         }
     }
 
-    /// ".. the record handed back holds the same trains on, routes, ..". A train off has neither route nor place nor position there.
-    fn same_trains_on_and_routes(&self) -> Verdict {
+    /// ".. the record handed back holds the same trains on, routes, .."; R-4: "a length .., kept with the train". A train off has
+    /// neither route nor place nor position nor length there.
+    fn same_trains_on_routes_and_lengths(&self) -> Verdict {
         for (number, (train, told)) in (1..).zip(self.trains.iter().zip(&self.record.trains)) {
             let Some(train) = train else {
-                let is_off = (told.route, told.place, told.position) == (0, 0, 0);
+                let is_off = (told.route, told.place, told.position, told.length) == (0, 0, 0, 0);
                 holds(is_off, || format!("train {number} is off, but not in the record"))?;
                 continue;
             };
             holds(told.is_on(), || format!("train {number} is on, but not in the record"))?;
             holds(told.route == train.route, || format!("train {number} is on route {}, the record says {}", train.route, told.route))?;
+            let same = told.length == train.length;
+            holds(same, || format!("train {number} has length {}, the record says {}", train.length, told.length))?;
         }
         Ok(())
     }
@@ -150,14 +161,18 @@ impl Demand3 {
     }
 
     /// "Its own segment is the one of its route that starts at or before its way and ends beyond it, lengths summed from the route's
-    /// start. It is on that segment and no other ... Its position is its way less that segment's start."
+    /// start. .. Its position is its way less that segment's start." R-4 says what it is on, in place of its own segment "and no other":
+    /// "A segment is under the train from the front's arrival until the rear is at or past its end".
     fn own_segment(&self, number: u8, train: &Train) -> Option<Own<'_>> {
         let listed = self.tables.route(train.route).listed();
-        let mut start = 0;
+        let (mut start, mut under) = (0, vec![]);
         for (place, &segment) in (1..).zip(listed) {
             let end = start + self.length(segment);
+            if start <= train.way && train.way < end + u64::from(train.length) {
+                under.push(segment);
+            }
             if start <= train.way && train.way < end {
-                return Some(Own { number, segment, place, position: train.way - start, following: &listed[place..] });
+                return Some(Own { number, segment, place, position: train.way - start, under, following: &listed[place..] });
             }
             start = end;
         }
@@ -205,7 +220,8 @@ impl Demand3 {
     fn was_granted_next(&self, own: &Own, segment: u8) -> Verdict {
         let Own { number, .. } = own;
         let granted = self.trains[usize::from(*number) - 1].is_some_and(|train| train.granted[usize::from(segment) - 1]);
-        holds(own.next() == Some(segment), || format!("segment {segment} is allocated to train {number}, neither its own nor its next"))?;
+        let is_next = own.next() == Some(segment);
+        holds(is_next, || format!("segment {segment} is allocated to train {number}, neither under it nor its next"))?;
         holds(granted, || format!("segment {segment} is allocated to train {number}, its next but never granted"))
     }
 
@@ -248,24 +264,28 @@ impl Demand3 {
 impl Demand3 {
     /// "no two trains are on one segment"
     fn no_two_trains_on_one_segment(&self, owns: &[Own]) -> Verdict {
-        for (index, Own { number, segment, .. }) in owns.iter().enumerate() {
-            if let Some(other) = owns[index + 1..].iter().find(|other| other.segment == *segment) {
-                return Err(format!("trains {number} and {} are on segment {segment}", other.number));
+        let mut on: [u8; SEGMENTS as usize] = [0; SEGMENTS as usize];
+        for Own { number, under, .. } in owns {
+            for segment in under {
+                let other = std::mem::replace(&mut on[usize::from(*segment) - 1], *number);
+                holds(other == 0, || format!("trains {other} and {number} are on segment {segment}"))?;
             }
         }
         Ok(())
     }
 
     /// "every segment that a train is on is allocated to it"
-    fn own_segments_allocated(&self, owns: &[Own]) -> Verdict {
-        for Own { number, segment, .. } in owns {
-            let its_own = self.record.allocated(*segment) == *number;
-            holds(its_own, || format!("segment {segment} is not allocated to train {number} on it"))?;
+    fn segments_under_allocated(&self, owns: &[Own]) -> Verdict {
+        for Own { number, under, .. } in owns {
+            for segment in under {
+                let to_it = self.record.allocated(*segment) == *number;
+                holds(to_it, || format!("segment {segment} is not allocated to train {number} on it"))?;
+            }
         }
         Ok(())
     }
 
-    /// "and its speed isn't above the limit there"
+    /// "and its speed isn't above the limit there"; R-4: "The speed limit remains that of the front's segment".
     fn speeds_within_limits(&self, owns: &[Own]) -> Verdict {
         for own in owns {
             let (number, speed, limit) = (own.number, self.record.train(own.number).speed, self.limit(own));
@@ -275,7 +295,7 @@ impl Demand3 {
     }
 
     /// "every allocated segment is one that its train is on or was granted next"
-    fn allocated_is_own_or_granted_next(&self, owns: &[Own]) -> Verdict {
+    fn allocated_is_under_or_granted_next(&self, owns: &[Own]) -> Verdict {
         for segment in 1..=SEGMENTS {
             let holder = self.record.allocated(segment);
             if holder == 0 {
@@ -284,7 +304,7 @@ impl Demand3 {
             let Some(own) = owns.iter().find(|own| own.number == holder) else {
                 return Err(format!("segment {segment} is allocated to train {holder}, which is not on"));
             };
-            if own.segment != segment {
+            if !own.under.contains(&segment) {
                 self.was_granted_next(own, segment)?;
             }
         }

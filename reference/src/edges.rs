@@ -2,8 +2,8 @@
 //! of "A sound record". An edge says by itself whether the record is sound there; the sound test is not asked.
 
 use crate::braking::{b_rest, s};
-use crate::numbers::{LAST_COUNT, SEGMENTS, TRAINS};
-use crate::random::{count, Random};
+use crate::numbers::{LAST_COUNT, LONGEST_TRAIN, SEGMENTS, TRAINS};
+use crate::random::{count, length, Random};
 use crate::record::{RawTrain, Record, GRANT, POSITION, REQUEST, SPEED};
 use crate::tables::{Segment, Tables, EXIT};
 
@@ -18,7 +18,7 @@ pub struct Edge {
 
 // ---- sound records
 
-/// A sound record: trains anywhere on their routes with any counts, one at least.
+/// A sound record: trains anywhere on their routes with any counts and lengths, one at least.
 pub fn sound_record(random: &mut Random, tables: &Tables, due: u8) -> Record {
     let mut record = Record { due, ..Record::loaded(*tables) };
     let first = random.within(1, TRAINS.into()) as u8;
@@ -28,6 +28,10 @@ pub fn sound_record(random: &mut Random, tables: &Tables, due: u8) -> Record {
         if number != first && random.one_in(rare) {
             put_on_anywhere(random, &mut record, number);
         }
+    }
+    let on = numbers(&record, true);
+    for number in random.mixed(on) {
+        lengthen(random, &mut record, number, |_| true);
     }
     record
 }
@@ -56,7 +60,7 @@ pub fn leaving_record(random: &mut Random, tables: &Tables, due: u8) -> Option<(
 }
 
 /// Tries a few places, since other trains have some.
-fn put_on_anywhere(random: &mut Random, record: &mut Record, number: u8) -> bool {
+pub(crate) fn put_on_anywhere(random: &mut Random, record: &mut Record, number: u8) -> bool {
     (0..4).any(|_| {
         let route = random.within(1, record.tables.r.into()) as u8;
         let place = random.edgy(1, record.tables.route(route).count.into()) as u8;
@@ -64,21 +68,43 @@ fn put_on_anywhere(random: &mut Random, record: &mut Record, number: u8) -> bool
     })
 }
 
-/// Puts a train on a place of a route. The segment there is allocated to it, one time in two the next one too where no other train
-/// has it. False, and nothing changed, where another train has the segment.
+/// Puts a train of length 1 on a place of a route. What is under it is allocated to it, one time in two its next too where no other train
+/// has it. False, and nothing changed, where another train has what has to be under it.
 fn put_on(random: &mut Random, record: &mut Record, number: u8, route: u8, place: u8) -> bool {
-    let own = record.tables.route(route).numbers[usize::from(place) - 1];
-    if ![0, number].contains(&record.allocated(own)) {
-        return false;
-    }
+    let before = *record;
     record.allocations.iter_mut().filter(|train| **train == number).for_each(|train| *train = 0);
-    allocate(record, own, number);
-    *train(record, number) = RawTrain { route, place, count: count(random), ..RawTrain::OFF };
+    *train(record, number) = RawTrain { route, place, count: count(random), length: 1, ..RawTrain::OFF };
     if random.one_in(2) {
         hold_next(record, number);
     }
     let speed = random.edgy(0, own_segment(record, number).limit.into()) as u16;
-    at_speed(random, record, number, speed)
+    let is_on = at_speed(random, record, number, speed);
+    if !is_on {
+        *record = before;
+    }
+    is_on
+}
+
+/// Gives a train that can have length 1 any length with which its rear is not beyond the segments behind it that no other train has and
+/// that are `free` for it.
+pub(crate) fn lengthen(random: &mut Random, record: &mut Record, number: u8, free: impl Fn(u8) -> bool) -> bool {
+    let segments: Vec<u32> = record.tables.lengths(record.train(number).route).collect();
+    let length = length(random, &segments).min(greatest_length(record, number, free));
+    with_length(record, number, length)
+}
+
+/// The greatest of these lengths.
+fn greatest_length(record: &Record, number: u8, free: impl Fn(u8) -> bool) -> u16 {
+    let can_be_under = |segment: u8| [0, number].contains(&record.allocated(segment)) && free(segment);
+    let ends = ends_behind(record, number);
+    let first_not = ends.into_iter().find(|&(segment, _)| !can_be_under(segment));
+    first_not.map_or(LONGEST_TRAIN, |(_, distance)| distance.min(LONGEST_TRAIN.into()) as u16)
+}
+
+/// A train with this length, and what is then under it allocated to it.
+fn with_length(record: &mut Record, number: u8, length: u16) -> bool {
+    train(record, number).length = length;
+    lie(record, number)
 }
 
 /// Gives a train a speed and a position with which it is sound, if there is one.
@@ -102,14 +128,26 @@ fn at_speed(random: &mut Random, record: &mut Record, number: u8, speed: u16) ->
     go_to(record, number, speed, position)
 }
 
-/// A train's speed and position as they are told, and its asking as it has to be with them.
+/// A train's speed and position as they are told, and its asking and what is allocated to it as they have to be with them. False where
+/// another train has a segment that is then under it.
 pub(crate) fn go_to(record: &mut Record, number: u8, speed: u16, position: u64) -> bool {
     let near = position >= u64::from(own_segment(record, number).length - record.tables.d);
     let could_ask = next(record, number).is_some() && held_next(record, number).is_none();
     let asks = record.due == GRANT && near && could_ask;
     let train = train(record, number);
     (train.speed, train.position, train.asks) = (speed, position as u32, asks.into());
-    true
+    lie(record, number)
+}
+
+/// Allocates to a train what is under it, and frees what else it has, but for its next. False where another train has some of it.
+pub(crate) fn lie(record: &mut Record, number: u8) -> bool {
+    let (under, next) = (under(record, number), next(record, number));
+    for segment in 1..=SEGMENTS {
+        if record.allocated(segment) == number && Some(segment) != next {
+            allocate(record, segment, 0);
+        }
+    }
+    under.into_iter().all(|segment| record.allocated(segment) == 0 && allocate(record, segment, number))
 }
 
 // ---- what stands around a train
@@ -130,6 +168,27 @@ fn numbers(record: &Record, on: bool) -> Vec<u8> {
 
 fn own(record: &Record, number: u8) -> u8 {
     record.train(number).own(&record.tables)
+}
+
+/// The segments behind a train's own one, from there back to the first of its route, each with how far its end lies behind the front.
+fn ends_behind(record: &Record, number: u8) -> Vec<(u8, u64)> {
+    let RawTrain { route, place, position, .. } = *record.train(number);
+    let passed = &record.tables.route(route).listed()[..usize::from(place) - 1];
+    let mut start = u64::from(position);
+    let end = |&segment: &u8| {
+        let end = start;
+        start += u64::from(record.tables.segment(segment).length);
+        (segment, end)
+    };
+    passed.iter().rev().map(end).collect()
+}
+
+/// What is under a train, by a walk back from its front: its own segment, and those behind it whose end lies less far behind the front than
+/// the rear.
+fn under(record: &Record, number: u8) -> Vec<u8> {
+    let length = u64::from(record.train(number).length);
+    let behind = ends_behind(record, number).into_iter().filter(|&(_, distance)| distance < length).map(|(segment, _)| segment);
+    [own(record, number)].into_iter().chain(behind).collect()
 }
 
 pub(crate) fn own_segment(record: &Record, number: u8) -> Segment {
@@ -241,9 +300,9 @@ fn nearing(random: &mut Random, record: &mut Record, number: u8, below: u32, ask
     if u64::from(position) + s(record.tables.b.into(), speed.into()) >= segment.length.into() {
         return false;
     }
-    go_to(record, number, speed, position.into());
+    let is_there = go_to(record, number, speed, position.into());
     train(record, number).asks = asks;
-    true
+    is_there
 }
 
 /// A train that does not ask, as it has to be, with this for its asking.
@@ -281,10 +340,66 @@ fn one_more_to_one_off(random: &mut Random, record: &mut Record, number: u8) -> 
     any(random, &off).is_some_and(|to| one_more(random, record, number, to))
 }
 
-fn own_to_another(random: &mut Random, record: &mut Record, number: u8) -> bool {
+/// One of the segments under a train, which is made as long as it can be.
+#[derive(Clone, Copy)]
+enum Under {
+    Front,
+    Middle,
+    Rear,
+}
+
+impl Under {
+    fn of(self, random: &mut Random, record: &mut Record, number: u8) -> Option<u8> {
+        let longest = greatest_length(record, number, |_| true);
+        with_length(record, number, longest);
+        let under = under(record, number);
+        match (self, &under[..]) {
+            (Under::Front, [front, ..]) => Some(*front),
+            (Under::Middle, [_, middle @ .., _]) => any(random, middle),
+            (Under::Rear, [_, .., rear]) => Some(*rear),
+            _ => None,
+        }
+    }
+}
+
+/// That segment allocated to none.
+fn under_to_none(random: &mut Random, record: &mut Record, number: u8, which: Under) -> bool {
+    which.of(random, record, number).is_some_and(|segment| allocate(record, segment, 0))
+}
+
+/// That segment allocated to another train.
+fn under_to_another(random: &mut Random, record: &mut Record, number: u8, which: Under) -> bool {
     let others: Vec<u8> = numbers(record, true).into_iter().filter(|&other| other != number).collect();
-    let segment = own(record, number);
-    any(random, &others).is_some_and(|to| allocate(record, segment, to))
+    let Some(to) = any(random, &others) else { return false };
+    which.of(random, record, number).is_some_and(|segment| allocate(record, segment, to))
+}
+
+/// The rear so far beyond the end of a segment behind the front's, and that segment allocated to the train or to none.
+fn rear_at(random: &mut Random, record: &mut Record, number: u8, beyond: i64, allocated: bool) -> bool {
+    let length = |distance: u64| distance as i64 - beyond;
+    let has_room = |&(segment, distance): &(u8, u64)| {
+        (1..=LONGEST_TRAIN.into()).contains(&length(distance)) && [0, number].contains(&record.allocated(segment))
+    };
+    let ends: Vec<(u8, u64)> = ends_behind(record, number).into_iter().filter(has_room).collect();
+    if ends.is_empty() {
+        return false;
+    }
+    let (segment, distance) = *random.of(&ends);
+    with_length(record, number, length(distance) as u16) && allocate(record, segment, if allocated { number } else { 0 })
+}
+
+/// Length 1, the front at the start of a segment that is not the route's first, and the segment behind allocated to the train or to none.
+fn at_a_start(record: &mut Record, number: u8, allocated: bool) -> bool {
+    let Some(&(behind, _)) = ends_behind(record, number).first() else { return false };
+    let speed = record.train(number).speed;
+    train(record, number).length = 1;
+    go_to(record, number, speed, 0) && allocate(record, behind, if allocated { number } else { 0 })
+}
+
+/// So much longer than the train's route, where that is no more than a train may be.
+fn beyond_its_route(record: &mut Record, number: u8, more: u64) -> bool {
+    let length = record.tables.lengths(record.train(number).route).map(u64::from).sum::<u64>() + more;
+    length <= LONGEST_TRAIN.into() && with_length(record, number, length as u16)
 }
 
 fn above_n(random: &mut Random, record: &mut Record, number: u8) -> bool {
@@ -295,13 +410,13 @@ fn above_n(random: &mut Random, record: &mut Record, number: u8) -> bool {
 fn last_place(random: &mut Random, record: &mut Record, number: u8) -> bool {
     let route = train(record, number).route;
     let place = record.tables.route(route).count;
-    put_on(random, record, number, route, place)
+    put_on(random, record, number, route, place) && lengthen(random, record, number, |_| true)
 }
 
 fn last_route(random: &mut Random, record: &mut Record, number: u8) -> bool {
     let route = record.tables.r;
     let place = random.edgy(1, record.tables.route(route).count.into()) as u8;
-    put_on(random, record, number, route, place)
+    put_on(random, record, number, route, place) && lengthen(random, record, number, |_| true)
 }
 
 /// A change of the train and of nothing else.
@@ -346,6 +461,10 @@ pub const EDGES: &[Edge] = &[
     Edge { name: "a train off with a count", due: ANY, sound: false, change: |r, x, _| off(r, x, |train| train.count = 1) },
     Edge { name: "a train off with count 256", due: ANY, sound: false, change: |r, x, _| off(r, x, |train| train.count = 256) },
     Edge { name: "a train off with the greatest count", due: ANY, sound: false, change: |r, x, _| off(r, x, |train| train.count = LAST_COUNT) },
+    Edge { name: "a train off with length 1", due: ANY, sound: false, change: |r, x, _| off(r, x, |train| train.length = 1) },
+    Edge { name: "a train off with length 256", due: ANY, sound: false, change: |r, x, _| off(r, x, |train| train.length = 256) },
+    Edge { name: "a train off with length 20,000", due: ANY, sound: false, change: |r, x, _| off(r, x, |train| train.length = 20_000) },
+    Edge { name: "a train off with length 65,535", due: ANY, sound: false, change: |r, x, _| off(r, x, |train| train.length = 65_535) },
     // of a train on no sentence speaks of the count
     Edge { name: "a train on without a count", due: ANY, sound: true, change: |_, x, t| with(x, t, |train| train.count = 0) },
     Edge { name: "a train on with a count", due: ANY, sound: true, change: |_, x, t| with(x, t, |train| train.count = 1) },
@@ -374,9 +493,29 @@ pub const EDGES: &[Edge] = &[
     Edge { name: "speed at the limit", due: ANY, sound: true, change: |r, x, t| at_limit(r, x, t, 0) },
     Edge { name: "speed one above the limit", due: ANY, sound: false, change: |r, x, t| at_limit(r, x, t, 1) },
     Edge { name: "the greatest speed", due: ANY, sound: false, change: |_, x, t| with(x, t, |train| train.speed = u16::MAX) },
-    // "Its own segment is allocated to it, its next may be, no other is."
-    Edge { name: "its own segment allocated to none", due: ANY, sound: false, change: |_, x, t| { let segment = own(x, t); allocate(x, segment, 0) } },
-    Edge { name: "its own segment allocated to another", due: ANY, sound: false, change: own_to_another },
+    // R-4 of document 02: "a record with a train on whose length is outside that is unsound"; what is under it fits the length
+    Edge { name: "length 0", due: ANY, sound: false, change: |_, x, t| with_length(x, t, 0) },
+    Edge { name: "length 1", due: ANY, sound: true, change: |_, x, t| with_length(x, t, 1) },
+    Edge { name: "length 20,000", due: ANY, sound: true, change: |_, x, t| with_length(x, t, 20_000) },
+    Edge { name: "length 20,001", due: ANY, sound: false, change: |_, x, t| with_length(x, t, 20_001) },
+    Edge { name: "length 65,535", due: ANY, sound: false, change: |_, x, t| with_length(x, t, 65_535) },
+    Edge { name: "as long as its route", due: ANY, sound: true, change: |_, x, t| beyond_its_route(x, t, 0) },
+    Edge { name: "longer than its route", due: ANY, sound: true, change: |_, x, t| beyond_its_route(x, t, 1) },
+    // "Its own segment is allocated to it, its next may be, no other is."; R-4: all that is under it
+    Edge { name: "its front's segment allocated to none", due: ANY, sound: false, change: |r, x, t| under_to_none(r, x, t, Under::Front) },
+    Edge { name: "a segment between front's and rear's allocated to none", due: ANY, sound: false, change: |r, x, t| under_to_none(r, x, t, Under::Middle) },
+    Edge { name: "its rear's segment allocated to none", due: ANY, sound: false, change: |r, x, t| under_to_none(r, x, t, Under::Rear) },
+    Edge { name: "its front's segment allocated to another", due: ANY, sound: false, change: |r, x, t| under_to_another(r, x, t, Under::Front) },
+    Edge { name: "a segment between front's and rear's allocated to another", due: ANY, sound: false, change: |r, x, t| under_to_another(r, x, t, Under::Middle) },
+    Edge { name: "its rear's segment allocated to another", due: ANY, sound: false, change: |r, x, t| under_to_another(r, x, t, Under::Rear) },
+    Edge { name: "rear one before an end, the segment there allocated", due: ANY, sound: true, change: |r, x, t| rear_at(r, x, t, -1, true) },
+    Edge { name: "rear one before an end, the segment there free", due: ANY, sound: false, change: |r, x, t| rear_at(r, x, t, -1, false) },
+    Edge { name: "rear at an end, the segment behind it free", due: ANY, sound: true, change: |r, x, t| rear_at(r, x, t, 0, false) },
+    Edge { name: "rear at an end, the segment behind it still allocated", due: ANY, sound: false, change: |r, x, t| rear_at(r, x, t, 0, true) },
+    Edge { name: "rear one past an end, the segment behind it free", due: ANY, sound: true, change: |r, x, t| rear_at(r, x, t, 1, false) },
+    Edge { name: "rear one past an end, the segment behind it still allocated", due: ANY, sound: false, change: |r, x, t| rear_at(r, x, t, 1, true) },
+    Edge { name: "length 1 at a segment's start, the segment behind it allocated", due: ANY, sound: true, change: |_, x, t| at_a_start(x, t, true) },
+    Edge { name: "length 1 at a segment's start, the segment behind it free", due: ANY, sound: false, change: |_, x, t| at_a_start(x, t, false) },
     Edge { name: "one more segment allocated to it", due: ANY, sound: false, change: |r, x, t| one_more(r, x, t, t) },
     // "While next is not allocated to it, or there is none: position + B(speed) < length with speed due,"
     Edge { name: "position + B(speed) = length - 1, speed due", due: &[SPEED], sound: true, change: |r, x, t| braking(r, x, t, b_rest, 0, -1) },

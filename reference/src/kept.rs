@@ -31,7 +31,15 @@ pub fn tables_of(tables: &Tables) -> rbu::Tables {
 
 /// Trains as the core keeps them.
 pub fn trains_of(record: &Record) -> [rbu::Train; rbu::TRAINS] {
-    record.trains.map(|RawTrain { route, place, position, speed, asks, count }| rbu::Train { route, place, count, position, speed, asks })
+    record.trains.map(|RawTrain { route, place, position, speed, asks, count, length }| rbu::Train {
+        route,
+        place,
+        count,
+        position,
+        speed,
+        length,
+        asks,
+    })
 }
 
 /// A record as the core keeps it.
@@ -60,13 +68,14 @@ pub fn record_of_kept(kept: &rbu::Record) -> Record {
         route.count = bytes[0];
         route.numbers.copy_from_slice(&bytes[1..]);
     }
-    let trains = kept.trains.map(|rbu::Train { route, place, count, position, speed, asks }| RawTrain {
+    let trains = kept.trains.map(|rbu::Train { route, place, count, position, speed, length, asks }| RawTrain {
         route,
         place,
         position,
         speed,
         asks,
         count,
+        length,
     });
     Record { tables, allocations: kept.allocations, trains, due: kept.due }
 }
@@ -74,7 +83,7 @@ pub fn record_of_kept(kept: &rbu::Record) -> Record {
 /// A call on a record that the core keeps: the number of its answer.
 pub fn call_kept(area: &mut rbu::Area, call: &Call) -> u8 {
     let answer = match *call {
-        Call::Enter { train, route, speed } => area.enter(train, route, speed),
+        Call::Enter { train, route, speed, length } => area.enter(train, route, speed, length),
         Call::Leave { train } => area.leave(train),
         Call::Speed { wishes } => area.speed(wishes),
         Call::Request => area.request(),

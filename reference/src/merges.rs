@@ -2,7 +2,7 @@
 //! What the grant step makes of such a record is known from how it was made; the step is not asked.
 
 use crate::braking::s;
-use crate::edges::{allocate, go_to, own_segment, train};
+use crate::edges::{allocate, go_to, lengthen, own_segment, train};
 use crate::numbers::{LAST_COUNT, SEGMENTS, TRAINS};
 use crate::random::{count, Random};
 use crate::record::{RawTrain, Record, GRANT, POSITION};
@@ -59,6 +59,7 @@ pub fn merging_record(random: &mut Random, tables: &Tables) -> Merging {
             }
         }
     }
+    making.lengthen(random);
     making.made()
 }
 
@@ -174,12 +175,12 @@ impl Making {
     }
 
     /// One is not near and does not ask.
-    fn far(&mut self, random: &mut Random, stand: Stand) {
+    fn far(&mut self, random: &mut Random, stand @ (_, place): Stand) {
         let number = self.put_near(random, stand);
         let segment = own_segment(&self.record, number);
         let speed = random.edgy(0, segment.limit.into()) as u16;
-        // it still stops within its segment: no way to run is longer than d
-        let position = random.edgy(0, u64::from(segment.length - self.record.tables.d) - 1);
+        // it still stops within its segment: no way to run is longer than d; at 0 the segment behind is under it too
+        let position = random.edgy((place > 1).into(), u64::from(segment.length - self.record.tables.d) - 1);
         go_to(&mut self.record, number, speed, position);
     }
 
@@ -192,11 +193,11 @@ impl Making {
         }
     }
 
-    /// A train with any count, near the end of its segment, where it can stop.
+    /// A train with any count, near the end of its segment, where it can stop; it is short, so that no other segment is under it.
     fn put_near(&mut self, random: &mut Random, stand @ (route, place): Stand) -> u8 {
         let (own, number) = (self.own(stand), self.off.pop().expect("there is a train left"));
         allocate(&mut self.record, own, number);
-        *train(&mut self.record, number) = RawTrain { route, place, count: count(random), ..RawTrain::OFF };
+        *train(&mut self.record, number) = RawTrain { route, place, count: count(random), length: 1, ..RawTrain::OFF };
         let (segment, d) = (own_segment(&self.record, number), u64::from(self.record.tables.d));
         let wanted = random.edgy(0, segment.limit.into()) as u16;
         let way = |speed: u16| s(self.record.tables.b.into(), speed.into());
@@ -205,6 +206,15 @@ impl Making {
         let position = random.edgy(length - d, length - 1 - way(speed));
         go_to(&mut self.record, number, speed, position);
         number
+    }
+
+    /// Makes trains longer, over segments that are free and that nobody asks for.
+    fn lengthen(&mut self, random: &mut Random) {
+        for number in 1..=TRAINS {
+            if self.record.train(number).is_on() {
+                lengthen(random, &mut self.record, number, |segment| !self.asked[usize::from(segment) - 1]);
+            }
+        }
     }
 
     // ---- what the step makes of it

@@ -37,6 +37,8 @@ pub const LONGEST: u32 = Bounds::DOCUMENT_02.longest;
 
 /// A train's count, of document 02: "stops at 65,535".
 pub const LAST_COUNT: u16 = 65_535;
+/// A train's length, of document 02: "1 to 20,000 decimetres".
+pub const LONGEST_TRAIN: u16 = 20_000;
 
 // The area file
 

@@ -2,7 +2,7 @@
 
 use crate::area::Call;
 use crate::braking::s;
-use crate::numbers::{Bounds, LAST_COUNT, LONGEST, ROUTES, ROUTE_SEGMENTS, SEGMENTS, TOP_SPEED, TRAINS, WISHES};
+use crate::numbers::{Bounds, LAST_COUNT, LONGEST, LONGEST_TRAIN, ROUTES, ROUTE_SEGMENTS, SEGMENTS, TOP_SPEED, TRAINS, WISHES};
 use crate::record::{RawTrain, Record, GRANT, POSITION, REQUEST, SPEED};
 use crate::tables::{Segment, ENTRY, EXIT};
 use crate::write::{links_ahead, shortest, Description, Links};
@@ -60,6 +60,31 @@ pub fn count(random: &mut Random) -> u16 {
         1 => random.within(1, 9) as u16,
         2 => *random.of(&[255, 256, 32_767, 32_768, LAST_COUNT - 1, LAST_COUNT]),
         _ => random.draw() as u16,
+    }
+}
+
+/// A train's length, 1 to 20,000, for a route with segments of these lengths: short ones, the longest, and those about a segment's length
+/// and about the whole route's.
+pub fn length(random: &mut Random, segments: &[u32]) -> u16 {
+    let about = |random: &mut Random, length: u64| length + random.within(0, 2) - 1;
+    let length = match random.draw() % 8 {
+        0 | 1 => 1,
+        2 => LONGEST_TRAIN.into(),
+        3 | 4 => {
+            let segment = *random.of(segments);
+            about(random, segment.into())
+        }
+        5 => about(random, segments.iter().map(|&length| u64::from(length)).sum()),
+        _ => random.edgy(1, LONGEST_TRAIN.into()),
+    };
+    length.min(LONGEST_TRAIN.into()) as u16
+}
+
+/// A length that no train has.
+pub fn wrong_length(random: &mut Random) -> u16 {
+    match random.draw() % 2 {
+        0 => *random.of(&[0, LONGEST_TRAIN + 1, 32_768, 65_535]),
+        _ => random.edgy(u64::from(LONGEST_TRAIN) + 1, 65_535) as u16,
     }
 }
 
@@ -148,6 +173,16 @@ pub fn merges(random: &mut Random) -> Description {
     let n = random.within(5, SEGMENTS.into()) as u8;
     let lengths = lengths(random, shortest(gmax, d), bounds.longest, n.into(), true);
     // none so low that trains creep
+    line(random, speeds, gmax.div_ceil(2), &lengths, ROUTES)
+}
+
+/// An area in which trains lie over many segments and routes may be shorter than trains: as `merges`, but with short segments, and fewer of
+/// them.
+pub fn short_segments(random: &mut Random) -> Description {
+    let gmax = random.within(1, 600) as u16;
+    let speeds @ (_, _, d) = speeds_to(random, gmax, LONGEST, true);
+    let n = random.within(3, 24) as usize;
+    let lengths = lengths(random, shortest(gmax, d), LONGEST, n, true);
     line(random, speeds, gmax.div_ceil(2), &lengths, ROUTES)
 }
 
@@ -270,10 +305,24 @@ fn entry_speed(random: &mut Random, area: &Description) -> u16 {
     }
 }
 
+/// A length to enter with on a route, mostly one that a train may have.
+fn entry_length(random: &mut Random, area: &Description, route: u16) -> u16 {
+    match random.draw() % 16 {
+        0 => wrong_length(random),
+        _ => length(random, &lengths_on(area, route)),
+    }
+}
+
+/// The lengths of a route's segments; where there is no such route, those of the first.
+fn lengths_on(area: &Description, route: u16) -> Vec<u32> {
+    let listed = area.routes.get(usize::from(route).wrapping_sub(1)).unwrap_or(&area.routes[0]);
+    listed.iter().map(|&segment| area.segment(segment).length).collect()
+}
+
 /// A call that owns its wishes.
-#[derive(Clone, Debug)]
+#[derive(Clone, PartialEq, Eq, Debug)]
 pub enum Owned {
-    Enter(u16, u16, u16),
+    Enter(u16, u16, u16, u16),
     Leave(u16),
     Speed(Vec<u16>),
     Request,
@@ -284,7 +333,7 @@ pub enum Owned {
 impl Owned {
     pub fn call(&self) -> Call<'_> {
         match self {
-            Owned::Enter(train, route, speed) => Call::Enter { train: *train, route: *route, speed: *speed },
+            Owned::Enter(train, route, speed, length) => Call::Enter { train: *train, route: *route, speed: *speed, length: *length },
             Owned::Leave(train) => Call::Leave { train: *train },
             Owned::Speed(wishes) => Call::Speed { wishes },
             Owned::Request => Call::Request,
@@ -299,7 +348,10 @@ pub fn call(random: &mut Random, area: &Description, due: u8) -> Owned {
     let routes = area.routes.len() as u64;
     let step = if random.one_in(12) { random.within(SPEED.into(), POSITION.into()) as u8 } else { due };
     match random.draw() % 20 {
-        0..=2 => Owned::Enter(number(random, TRAINS.into()), number(random, routes), entry_speed(random, area)),
+        0..=2 => {
+            let (train, route) = (number(random, TRAINS.into()), number(random, routes));
+            Owned::Enter(train, route, entry_speed(random, area), entry_length(random, area, route))
+        }
         3..=4 => Owned::Leave(number(random, TRAINS.into())),
         _ => step_of(step, || wishes(random, area)),
     }
@@ -316,14 +368,15 @@ fn step_of(due: u8, wishes: impl FnOnce() -> Vec<u16>) -> Owned {
 }
 
 /// A call by which trains meet: at times any call, otherwise trains enter, those at their route's end leave, and all the others run on,
-/// at times with some of them held back.
-pub fn meeting(random: &mut Random, area: &Description, record: &Record) -> Owned {
+/// at times with some of them held back. One train in so many has any length; the others have length 1, since long trains keep others from
+/// coming to a merge.
+pub fn meeting(random: &mut Random, area: &Description, record: &Record, long: u64) -> Owned {
     if random.one_in(16) {
         return call(random, area, record.due);
     }
     let (off, at_the_end) = (off(record), at_the_end(record));
     match random.draw() % 8 {
-        0 | 1 if !off.is_empty() => entering(random, area, &off),
+        0 | 1 if !off.is_empty() => entering(random, area, &off, long),
         2..=4 if !at_the_end.is_empty() => Owned::Leave((*random.of(&at_the_end)).into()),
         _ => step_of(record.due, || held_back(random, area, 4)),
     }
@@ -338,7 +391,7 @@ pub fn running(random: &mut Random, area: &Description, record: &Record) -> Owne
     let (off, at_the_end) = (off(record), at_the_end(record));
     let on = usize::from(TRAINS) - off.len();
     match random.draw() % 512 {
-        0..=31 if on < 3 => entering(random, area, &off),
+        0..=31 if on < 3 => entering(random, area, &off, 1),
         32 | 33 if !at_the_end.is_empty() => Owned::Leave((*random.of(&at_the_end)).into()),
         _ => step_of(record.due, || held_back(random, area, 32)),
     }
@@ -357,11 +410,13 @@ fn numbers(record: &Record, is: impl Fn(&RawTrain) -> bool) -> Vec<u8> {
     (1..=TRAINS).filter(|&number| is(record.train(number))).collect()
 }
 
-/// One of these trains enters, at a speed that its segment allows.
-fn entering(random: &mut Random, area: &Description, off: &[u8]) -> Owned {
+/// One of these trains enters, at a speed that its segment allows; one in so many with any length that a train may have, the others with 1.
+fn entering(random: &mut Random, area: &Description, off: &[u8], long: u64) -> Owned {
     let route = random.within(1, area.routes.len() as u64) as u16;
     let first = area.segment(area.routes[usize::from(route) - 1][0]);
-    Owned::Enter((*random.of(off)).into(), route, random.edgy(0, first.limit.into()) as u16)
+    let speed = random.edgy(0, first.limit.into()) as u16;
+    let length = if random.one_in(long) { length(random, &lengths_on(area, route)) } else { 1 };
+    Owned::Enter((*random.of(off)).into(), route, speed, length)
 }
 
 /// All wishes at the top speed; one time in so many about half of them at 0.

@@ -1,7 +1,7 @@
 //! The area record, with any contents at all, and the section "A sound record".
 
 use crate::braking::{b_rest, s};
-use crate::numbers::{SEGMENTS, TRAINS};
+use crate::numbers::{LONGEST_TRAIN, SEGMENTS, TRAINS};
 use crate::tables::Tables;
 
 /// The step due. "Order: speed, request, grant, position, speed."
@@ -11,7 +11,8 @@ pub const GRANT: u8 = 2;
 pub const POSITION: u8 = 3;
 
 /// "A train on the area has a route, a place in it, a position in its segment and a speed."
-/// Off means route 0. R-2 of document 02: "Each train counts the grant steps at which it asked and got nothing".
+/// Off means route 0. R-2 of document 02: "Each train counts the grant steps at which it asked and got nothing"; R-4: "Enter takes a
+/// length .., kept with the train". Place and position are its front's.
 #[derive(Clone, Copy, PartialEq, Eq, Debug)]
 pub struct RawTrain {
     pub route: u8,
@@ -21,11 +22,12 @@ pub struct RawTrain {
     /// 1 where it asks, 0 where not; another number is in no sound record
     pub asks: u8,
     pub count: u16,
+    pub length: u16,
 }
 
 impl RawTrain {
     /// "A train off is all zero." R-2: "a train off has count 0".
-    pub const OFF: RawTrain = RawTrain { route: 0, place: 0, position: 0, speed: 0, asks: 0, count: 0 };
+    pub const OFF: RawTrain = RawTrain { route: 0, place: 0, position: 0, speed: 0, asks: 0, count: 0, length: 0 };
 
     pub fn is_on(&self) -> bool {
         self.route != 0
@@ -39,6 +41,17 @@ impl RawTrain {
     /// "Its next is the route's next segment, if any."
     pub fn next(&self, tables: &Tables) -> Option<u8> {
         tables.route(self.route).listed().get(usize::from(self.place)).copied()
+    }
+
+    /// Its way: the summed lengths of the segments before its place, which there is, and its position.
+    pub fn way(&self, tables: &Tables) -> u64 {
+        let own = tables.stretches(self.route).nth(usize::from(self.place) - 1).expect("its route has its place");
+        own.start + u64::from(self.position)
+    }
+
+    /// What is under it, in the order of its route.
+    pub fn under<'a>(&self, tables: &'a Tables) -> &'a [u8] {
+        tables.under(self.route, self.way(tables), self.length)
     }
 }
 
@@ -82,7 +95,7 @@ pub fn sound(record: &Record) -> bool {
     record.tables.meet_4_to_10()
         // "The step due is one of four."
         && record.due <= POSITION
-        // "A train off is all zero.", its count too
+        // "A train off is all zero.", its count and its length too
         && record.trains.iter().all(|train| train.is_on() || *train == RawTrain::OFF)
         // "Every allocation is 0 or the number of a train on; above N it is 0."
         && record.allocations.iter().all(|&train| train == 0 || is_train_on(record, train))
@@ -116,12 +129,20 @@ fn sound_train_on(record: &Record, number: u8) -> bool {
         return false;
     }
 
-    // "Its own segment is allocated to it, its next may be, no other is."
-    let allocated_to_it = |segment: u8| record.allocated(segment) == number;
-    if !allocated_to_it(own) {
+    // R-4 of document 02: "a record with a train on whose length is outside that is unsound"
+    if !(1..=LONGEST_TRAIN).contains(&train.length) {
         return false;
     }
-    if (1..=SEGMENTS).any(|other| allocated_to_it(other) && other != own && Some(other) != next) {
+
+    // "Its own segment is allocated to it, its next may be, no other is."; R-4: "all of these segments", those under it, "are allocated
+    // to that train alone"
+    // reading: what is under it takes the place of its own segment, which is the last of these.
+    let allocated_to_it = |segment: u8| record.allocated(segment) == number;
+    let under = train.under(tables);
+    if !under.iter().all(|&segment| allocated_to_it(segment)) {
+        return false;
+    }
+    if (1..=SEGMENTS).any(|other| allocated_to_it(other) && !under.contains(&other) && Some(other) != next) {
         return false;
     }
     let next_is_its_own = next.is_some_and(allocated_to_it);

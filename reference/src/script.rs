@@ -7,7 +7,7 @@ use crate::numbers::{ITEMS, MOST_WISHES};
 pub fn items_of(call: &Call) -> [u16; ITEMS] {
     let mut items = [0; ITEMS];
     match *call {
-        Call::Enter { train, route, speed } => items[..4].copy_from_slice(&[1, train, route, speed]),
+        Call::Enter { train, route, speed, length } => items[..5].copy_from_slice(&[1, train, route, speed, length]),
         Call::Leave { train } => items[..2].copy_from_slice(&[2, train]),
         Call::Speed { wishes } => {
             items[0] = 3;

@@ -14,6 +14,7 @@ pub fn state_of(record: &Record) -> [u8; STATE_SIZE] {
         bytes[4..8].copy_from_slice(&train.position.to_le_bytes());
         bytes[8..10].copy_from_slice(&train.speed.to_le_bytes());
         bytes[10..12].copy_from_slice(&train.count.to_le_bytes());
+        bytes[12..14].copy_from_slice(&train.length.to_le_bytes());
     }
     state
 }
@@ -29,6 +30,7 @@ pub fn record_of(tables: &Tables, state: &[u8; STATE_SIZE]) -> Record {
             speed: u16::from_le_bytes([bytes[8], bytes[9]]),
             asks: bytes[2],
             count: u16::from_le_bytes([bytes[10], bytes[11]]),
+            length: u16::from_le_bytes([bytes[12], bytes[13]]),
         };
     }
     Record { tables: *tables, allocations: state[STATE_ALLOCATIONS].try_into().unwrap(), trains, due: state[0] }

@@ -5,6 +5,7 @@
 
 use crate::braking::s;
 use crate::numbers::{Bounds, ROUTES, ROUTE_SEGMENTS, SEGMENTS};
+use std::ops::Range;
 
 /// "flags (1 entry, 2 exit, sum of both)"
 pub const ENTRY: u8 = 1;
@@ -81,6 +82,29 @@ impl Tables {
     /// Route by number, 1 to 30.
     pub fn route(&self, number: u8) -> &Route {
         &self.routes[usize::from(number) - 1]
+    }
+
+    /// The lengths of a route's segments.
+    pub fn lengths(&self, route: u8) -> impl Iterator<Item = u32> + '_ {
+        self.route(route).listed().iter().map(|&segment| self.segment(segment).length)
+    }
+
+    /// Each segment of a route from its start to its end, "lengths summed from the route's start".
+    pub fn stretches(&self, route: u8) -> impl Iterator<Item = Range<u64>> + '_ {
+        self.lengths(route).scan(0, |end, length| {
+            let start = *end;
+            *end += u64::from(length);
+            Some(start..*end)
+        })
+    }
+
+    /// R-4 of document 02: what is under a train on this route, of this way and this length. "The rear lies that far behind the front
+    /// along the route, and what lies before the route's first segment is outside the area. A segment is under the train from the front's
+    /// arrival until the rear is at or past its end".
+    pub fn under(&self, route: u8, way: u64, length: u16) -> &[u8] {
+        let arrived_at = self.stretches(route).take_while(|segment| segment.start <= way).count();
+        let cleared = self.stretches(route).take_while(|segment| segment.end + u64::from(length) <= way).count();
+        &self.route(route).listed()[cleared..arrived_at]
     }
 
     /// 4 header: "segments N, 1 to 62"; "routes R, 1 to 30"; "`b`, 1 to `gmax`"; R-3 of document

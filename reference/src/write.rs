@@ -88,6 +88,16 @@ pub fn area_a() -> Description {
     }
 }
 
+/// Area A with a segment after the merge, long enough that the rear of a long train comes past it: segment 4 (12,000, 290, exit), to which 3
+/// leads, which has no exit. Routes: 1-3-4 and 2-3-4.
+pub fn ore_line() -> Description {
+    let mut line = area_a();
+    (line.segments[2].next, line.segments[2].flags) = ([4, 0], 0);
+    line.segments.push(Segment { length: 12_000, limit: 290, next: [0, 0], previous: [3, 0], flags: EXIT });
+    line.routes.iter_mut().for_each(|route| route.push(4));
+    line
+}
+
 /// The least length that rule 6 allows: "above `d` + `gmax`".
 pub fn shortest(gmax: u16, d: u32) -> u32 {
     d + u32::from(gmax) + 1
@@ -103,8 +113,9 @@ pub fn like_area_a(gmax: u16, b: u16, d: u32) -> Description {
 }
 
 /// Document 01's program on Area A: "enters train 1 on route 1 at 250 and train 2 on route 2 at 200, runs six cycles with all wishes
-/// 300": the entries, and the steps of a cycle.
-pub const AREA_A_ENTRIES: [Call; 2] = [Call::Enter { train: 1, route: 1, speed: 250 }, Call::Enter { train: 2, route: 2, speed: 200 }];
+/// 300": the entries, and the steps of a cycle. R-4 of document 02: "Area A runs with length 1".
+pub const AREA_A_ENTRIES: [Call; 2] =
+    [Call::Enter { train: 1, route: 1, speed: 250, length: 1 }, Call::Enter { train: 2, route: 2, speed: 200, length: 1 }];
 pub const AREA_A_CYCLE: [Call; 4] = cycle(&[300; WISHES]);
 
 /// The next links of all segments, and the previous links.

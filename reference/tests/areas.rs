@@ -77,3 +77,12 @@ fn numbers_in_names() {
         assert!(is(&decode_tables(&areas(name))), "{name}");
     }
 }
+
+/// Area A's segments, and one after the merge.
+#[test]
+fn the_line_after_the_merge() {
+    let (a, line) = (decode_tables(&areas("area_a")), decode_tables(&areas("ore_line")));
+    let lengths = |tables: &Tables| tables.segments.map(|segment| segment.length);
+    assert_eq!((&lengths(&line)[..3], lengths(&line)[3]), (&lengths(&a)[..3], 12_000));
+    assert_eq!((line.route(1).listed(), line.route(2).listed()), (&[1, 3, 4][..], &[2, 3, 4][..]));
+}

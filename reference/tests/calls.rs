@@ -18,7 +18,7 @@ fn longer() -> Description {
 }
 
 fn train(route: u8, place: u8, position: u32, speed: u16) -> RawTrain {
-    RawTrain { route, place, position, speed, asks: 0, count: 0 }
+    RawTrain { route, place, position, speed, asks: 0, count: 0, length: 1 }
 }
 
 fn raw(description: &Description, due: u8, trains: &[(usize, RawTrain)], allocations: &[u8]) -> Record {
@@ -50,7 +50,7 @@ fn unsound_11() {
     for record in [Record::BLANK, late] {
         assert!(!sound(&record));
         assert!(Area::from_record(&record).is_none());
-        let calls = [Call::Enter { train: 0, route: 1, speed: 1 }, Call::Leave { train: ABOVE }, Call::Speed { wishes: &[] }];
+        let calls = [Call::Enter { train: 0, route: 1, speed: 1, length: 1 }, Call::Leave { train: ABOVE }, Call::Speed { wishes: &[] }];
         for call in calls.iter().chain(&AREA_A_CYCLE) {
             assert_eq!(call_on(&record, call), (11, record));
         }
@@ -77,12 +77,12 @@ fn turn_12() {
 
 #[test]
 fn enter_13_14_16_17_18_19() {
-    let enter = |train, route, speed| Call::Enter { train, route, speed };
+    let enter = |train, route, speed| Call::Enter { train, route, speed, length: 1 };
     let mut area = Area::from_record(&raw(&longer(), SPEED, &[], &[])).unwrap();
     for train in [0, ABOVE, 256, 257, u16::MAX] {
         refused(&mut area, enter(train, 0, 301), 13);
     }
-    assert_eq!(area.enter(1, 1, 300), 0);
+    assert_eq!(area.enter(1, 1, 300, 1), 0);
     assert_eq!(area.report(), (0, 1, 2));
     refused(&mut area, enter(1, 0, 301), 14);
     for route in [0, 5, 257, u16::MAX] {
@@ -93,7 +93,7 @@ fn enter_13_14_16_17_18_19() {
     refused(&mut area, enter(2, 3, 301), 18);
     refused(&mut area, enter(2, 2, 291), 19);
     refused(&mut area, enter(2, 2, u16::MAX), 19);
-    assert_eq!(area.enter(LAST, 2, 290), 0);
+    assert_eq!(area.enter(LAST, 2, 290, 1), 0);
     let record = area.record();
     assert_eq!(*record.train(TRAINS), train(2, 1, 0, 290));
     assert_eq!(record.allocations[..4], [1, TRAINS, 0, 0]);
@@ -106,7 +106,7 @@ fn leave_13_15_20() {
     }
     refused(&mut a(), Call::Leave { train: LAST }, 15);
     let mut first = a();
-    first.enter(1, 1, 0);
+    first.enter(1, 1, 0, 1);
     refused(&mut first, Call::Leave { train: 1 }, 20);
     // on segment 3: the last of route 1, not of route 3
     for due in [SPEED, REQUEST, GRANT, POSITION] {
@@ -182,7 +182,7 @@ fn request_and_grant_step() {
         assert_eq!(call_on(&record, &Call::Request), (0, Record { due: GRANT, ..record }));
     }
     // next taken by another train: it asks, goes without, and counts
-    let taken = raw(&area_a(), REQUEST, &[(7, train(1, 1, 1350, 290)), (2, train(2, 2, 0, 0))], &[7, 0, 2]);
+    let taken = raw(&area_a(), REQUEST, &[(7, train(1, 1, 1350, 290)), (2, train(2, 2, 1, 0))], &[7, 0, 2]);
     let (_, asked) = call_on(&taken, &Call::Request);
     assert_eq!(asked.trains[6].asks, 1);
     let mut without = Record { due: POSITION, ..taken };
@@ -190,7 +190,7 @@ fn request_and_grant_step() {
     assert_eq!(call_on(&asked, &Call::Grant), (0, without));
     // a train that leaves while others ask, and enters beside them
     let mut area = Area::from_record(&asked).unwrap();
-    assert_eq!((area.leave(2), area.enter(1, 2, 290), area.grant()), (0, 0, 0));
+    assert_eq!((area.leave(2), area.enter(1, 2, 290, 1), area.grant()), (0, 0, 0));
     assert_eq!(area.record().allocations[..3], [7, 1, 7]);
 }
 
@@ -245,6 +245,9 @@ fn sound_record() {
     for count in [1, 255, 256, LAST_COUNT] {
         broken(&|r| r.trains[23].count = count);
     }
+    for length in [1, 256, LONGEST_TRAIN, LONGEST_TRAIN + 1, u16::MAX] {
+        broken(&|r| r.trains[23].length = length);
+    }
     // allocations
     broken(&|r| r.allocations[3] = 3);
     broken(&|r| r.allocations[3] = TRAINS + 1);
@@ -261,6 +264,9 @@ fn sound_record() {
     broken(&|r| r.trains[0].position = u32::MAX);
     broken(&|r| r.trains[0].speed = 301);
     broken(&|r| r.trains[0].speed = u16::MAX);
+    for length in [0, LONGEST_TRAIN + 1, u16::MAX] {
+        broken(&|r| r.trains[0].length = length);
+    }
     // its own segment, its next, no other
     broken(&|r| r.allocations[0] = 0);
     broken(&|r| r.allocations[0] = 2);
@@ -309,7 +315,8 @@ fn sound_of_wild_records() {
         let mut tables = decode_tables(&[byte; FILE_SIZE]);
         let mut record = Record { tables, ..Record::BLANK };
         record.allocations = [byte; SEGMENTS as usize];
-        let train = RawTrain { route: byte, place: byte, position: wide, speed: wide as u16, asks: byte.max(1), count: wide as u16 };
+        let (speed, count, length) = (wide as u16, wide as u16, wide as u16);
+        let train = RawTrain { route: byte, place: byte, position: wide, speed, asks: byte.max(1), count, length };
         record.trains = [train; TRAINS as usize];
         record.due = byte;
         assert!(!sound(&record));

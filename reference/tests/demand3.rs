@@ -39,6 +39,15 @@ impl Run {
         run
     }
 
+    /// Cycles until it holds of train 1; one that never does fails.
+    fn until(&mut self, holds: impl Fn(&RawTrain) -> bool) {
+        let comes = (0..300).any(|_| {
+            self.done(&AREA_A_CYCLE);
+            holds(&self.area.record().trains[0])
+        });
+        assert!(comes);
+    }
+
     /// Area A with train 1 alone.
     fn of_train_1() -> Run {
         let mut run = Run::of(&area_a());
@@ -69,7 +78,7 @@ fn says(verdict: Result<(), String>, words: &str) {
 }
 
 const fn standing(route: u8) -> RawTrain {
-    RawTrain { route, place: 1, position: 0, speed: 0, asks: 0, count: 0 }
+    RawTrain { route, place: 1, position: 0, speed: 0, asks: 0, count: 0, length: 1 }
 }
 
 // ---- Whole runs
@@ -81,7 +90,7 @@ fn six_cycles_and_on() {
     // refused ones included
     assert_eq!(run.call(Call::Position), Ok(12));
     assert_eq!(run.call(Call::Speed { wishes: &[] }), Ok(21));
-    assert_eq!(run.call(Call::Enter { train: 257, route: 1, speed: 0 }), Ok(13));
+    assert_eq!(run.call(Call::Enter { train: 257, route: 1, speed: 0, length: 1 }), Ok(13));
     assert_eq!(run.call(Call::Leave { train: 2 }), Ok(20));
     // train 2 goes to segment 3, leaves, and train 1 follows
     let mut left = 0;
@@ -123,7 +132,7 @@ fn catches_trains_on() {
     says(run.doctored(|r| r.trains[0] = RawTrain::OFF), "train 1 is on, but not in the record");
     says(run.doctored(|r| r.trains[4] = r.trains[0]), "train 5 is off, but not in the record");
     // not from a refused enter, nor until a refused leave
-    let enter = Call::Enter { train: 5, route: 1, speed: 0 };
+    let enter = Call::Enter { train: 5, route: 1, speed: 0, length: 1 };
     says(run.clone().told(enter, 18, |r| r.trains[4] = standing(1)), "train 5 is off, but not in the record");
     says(run.clone().told(Call::Leave { train: 1 }, 20, |r| r.trains[0] = RawTrain::OFF), "train 1 is on, but not in the record");
     // from the enter and until the leave answered done
@@ -137,10 +146,13 @@ fn catches_trains_on() {
 fn catches_answers_that_the_list_cannot_have() {
     let mut run = Run::of_area_a(4);
     for call in [
-        Call::Enter { train: 1, route: 1, speed: 0 },
-        Call::Enter { train: 257, route: 1, speed: 0 },
-        Call::Enter { train: 3, route: 0, speed: 0 },
-        Call::Enter { train: 3, route: 3, speed: 0 },
+        Call::Enter { train: 1, route: 1, speed: 0, length: 1 },
+        Call::Enter { train: 257, route: 1, speed: 0, length: 1 },
+        Call::Enter { train: 3, route: 0, speed: 0, length: 1 },
+        Call::Enter { train: 3, route: 3, speed: 0, length: 1 },
+        Call::Enter { train: 3, route: 1, speed: 0, length: 0 },
+        Call::Enter { train: 3, route: 1, speed: 0, length: 20_001 },
+        Call::Enter { train: 3, route: 1, speed: 0, length: u16::MAX },
         Call::Leave { train: 0 },
         Call::Leave { train: 3 },
         Call::Leave { train: u16::from(TRAINS) + 1 },
@@ -229,13 +241,13 @@ fn catches_a_grant_of_an_earlier_enter() {
     description.segments[0].flags = ENTRY | EXIT;
     description.routes = vec![vec![1], vec![1, 3]];
     let mut run = Run::of(&description);
-    run.done(&[Call::Enter { train: 1, route: 2, speed: 300 }]);
+    run.done(&[Call::Enter { train: 1, route: 2, speed: 300, length: 1 }]);
     while run.area.record().allocations[2] == 0 {
         run.step();
     }
     // a leave and an enter told as done, segment 3 kept
     says(run.told(Call::Leave { train: 1 }, 0, |r| r.trains[0] = RawTrain::OFF), "which is not on");
-    let enter = Call::Enter { train: 1, route: 2, speed: 0 };
+    let enter = Call::Enter { train: 1, route: 2, speed: 0, length: 1 };
     says(run.told(enter, 0, |r| r.trains[0] = standing(2)), "never granted");
 }
 
@@ -271,7 +283,7 @@ fn says_nothing_of_counts() {
 #[test]
 fn catches_two_trains_on_one_segment() {
     // an enter onto train 1's segment answered done
-    let enter = Call::Enter { train: 3, route: 1, speed: 0 };
+    let enter = Call::Enter { train: 3, route: 1, speed: 0, length: 1 };
     says(Run::of_area_a(4).told(enter, 0, |r| r.trains[2] = standing(1)), "trains 1 and 3 are on segment 1");
 }
 
@@ -300,10 +312,83 @@ fn catches_allocations() {
     says(run.doctored(|r| r.allocations[2] = 255), "which is not on");
     // neither own nor next
     let run = Run::of_train_1();
-    says(run.doctored(|r| r.allocations[1] = 1), "neither its own nor its next");
-    says(run.doctored(|r| r.allocations[usize::from(SEGMENTS) - 1] = 1), "neither its own nor its next");
+    says(run.doctored(|r| r.allocations[1] = 1), "neither under it nor its next");
+    says(run.doctored(|r| r.allocations[usize::from(SEGMENTS) - 1] = 1), "neither under it nor its next");
     // a segment behind it, not freed
-    says(at_the_length().told(Call::Position, 12, |r| r.allocations[0] = 1), "neither its own nor its next");
+    let mut past = at_the_length();
+    past.done(&AREA_A_CYCLE);
+    says(past.told(Call::Position, 12, |r| r.allocations[0] = 1), "neither under it nor its next");
+}
+
+// ---- R-4 of document 02
+
+/// Train 1, of this length, alone on the line after Area A's merge, when its way is 18,020: 4020 past the end of segment 3, which ends at
+/// 14,000 as segment 1 ends at 6000.
+fn on_the_ore_line(length: u16) -> Run {
+    let mut run = Run::of(&ore_line());
+    run.done(&[Call::Enter { train: 1, route: 1, speed: 290, length }]);
+    let tables = *run.area.tables();
+    run.until(|train| train.way(&tables) >= 18_000);
+    assert_eq!((run.area.record().trains[0].place, run.area.record().trains[0].position), (3, 4020));
+    run
+}
+
+/// "'On a segment' now means that it is under the train, so all of these segments are allocated to that train alone."
+#[test]
+fn catches_a_segment_under_a_train_not_allocated() {
+    // rear at 0, 6000 and 14,000, and one before these
+    for (length, under) in
+        [(18_020, &[1, 3, 4][..]), (18_021, &[1, 3, 4]), (12_020, &[3, 4]), (12_021, &[1, 3, 4]), (4020, &[4]), (4021, &[3, 4])]
+    {
+        let mut run = on_the_ore_line(length);
+        let held = |record: &Record| (1..=SEGMENTS).filter(|&segment| record.allocated(segment) == 1).collect::<Vec<u8>>();
+        assert_eq!(held(&run.area.record()), under);
+        for segment in [1, 3, 4] {
+            let place = usize::from(segment) - 1;
+            if under.contains(&segment) {
+                for other in [0, 2] {
+                    let wrong = format!("segment {segment} is not allocated to train 1 on it");
+                    says(run.told(Call::Position, 12, |r| r.allocations[place] = other), &wrong);
+                }
+            } else {
+                says(run.told(Call::Position, 12, |r| r.allocations[place] = 1), "neither under it nor its next");
+            }
+        }
+    }
+}
+
+/// A train enters onto the segment of another's rear.
+#[test]
+fn catches_two_trains_on_the_rears_segment() {
+    let enter = Call::Enter { train: 3, route: 1, speed: 0, length: 1 };
+    let entered = |r: &mut Record| (r.trains[2], r.allocations[0]) = (standing(1), 3);
+    says(on_the_ore_line(12_021).told(enter, 0, entered), "trains 1 and 3 are on segment 1");
+    assert_eq!(on_the_ore_line(12_020).told(enter, 0, entered), Ok(()));
+}
+
+/// "The speed limit remains that of the front's segment".
+#[test]
+fn the_limit_is_the_fronts() {
+    let mut line = ore_line();
+    line.segments[3].limit = 300;
+    let mut run = Run::of(&line);
+    run.done(&[Call::Enter { train: 1, route: 1, speed: 290, length: 12_000 }]);
+    run.until(|train| train.place == 3 && train.speed == 300);
+    // segment 3, with limit 290, is still under it
+    assert_eq!((run.area.record().allocated(3), run.area.record().trains[0].place), (1, 3));
+    says(run.told(Call::Position, 12, |r| r.trains[0].speed = 301), "speed 301 above the limit 300");
+}
+
+/// ".. a length .., kept with the train".
+#[test]
+fn catches_lengths() {
+    let run = Run::of_area_a(7);
+    says(run.doctored(|r| r.trains[0].length = 2), "train 1 has length 1, the record says 2");
+    says(run.doctored(|r| r.trains[0].length = 0), "train 1 has length 1, the record says 0");
+    says(run.doctored(|r| r.trains[4].length = 1), "train 5 is off, but not in the record");
+    let entered = |r: &mut Record| (r.trains[0], r.allocations[0]) = (standing(1), 1);
+    let enter = Call::Enter { train: 1, route: 1, speed: 0, length: 300 };
+    says(Run::of(&area_a()).told(enter, 0, entered), "train 1 has length 300, the record says 1");
 }
 
 /// "every train, braking fully from the next speed step on, stops within the segments then allocated to it"
@@ -318,9 +403,9 @@ fn catches_not_stopping() {
 #[test]
 fn many_runs() {
     let mut random = Random::new(15);
-    let (mut moved_on, mut left) = (0, 0);
+    let (mut moved_on, mut left, mut over) = (0, 0, 0);
     for k in 0..150 {
-        let description = random::area(&mut random, k % 4 != 0);
+        let description = if k % 5 == 0 { random::short_segments(&mut random) } else { random::area(&mut random, k % 4 != 0) };
         let mut run = Run::of(&description);
         for _ in 0..1000 {
             let before = run.area.record();
@@ -334,8 +419,9 @@ fn many_runs() {
             }
             left += usize::from(answer == 0 && matches!(owned, Owned::Leave(_)));
             moved_on += before.trains.iter().zip(&after.trains).filter(|(was, is)| was.route != 0 && was.place < is.place).count();
+            over += after.trains.iter().filter(|train| train.is_on() && train.under(&after.tables).len() > 2).count();
         }
     }
-    assert!(moved_on > 1000 && left > 100, "{moved_on} moved on, {left} left");
-    println!("{moved_on} moved on, {left} left");
+    assert!(moved_on > 1000 && left > 100 && over > 10_000, "{moved_on} moved on, {left} left, {over} over more than two segments");
+    println!("{moved_on} moved on, {left} left, {over} over more than two segments");
 }

@@ -5,7 +5,7 @@ use reference::*;
 
 /// A train that stands where it just is near: 1350 of segment 1's 6000 by route 1, 850 of segment 2's 5500 by route 2.
 fn near(route: u8, asks: u8, count: u16) -> RawTrain {
-    RawTrain { route, place: 1, position: if route == 1 { 1350 } else { 850 }, speed: 0, asks, count }
+    RawTrain { route, place: 1, position: if route == 1 { 1350 } else { 850 }, speed: 0, asks, count, length: 1 }
 }
 
 /// Area A with trains at their numbers.
@@ -74,7 +74,7 @@ fn alone() {
 #[test]
 fn counts_before_an_allocated_segment() {
     for (count, then) in [(0, 1), (1, 2), (255, 256), (65_534, 65_535), (65_535, 65_535)] {
-        let on_it = RawTrain { route: 1, place: 2, position: 0, speed: 0, asks: 0, count: 3 };
+        let on_it = RawTrain { route: 1, place: 2, position: 1, speed: 0, asks: 0, count: 3, length: 1 };
         let after = granted(&area_a_with(GRANT, &[(1, near(1, 1, count)), (2, near(2, 1, 9)), (3, on_it)], [1, 2, 3]));
         assert_eq!(after, area_a_with(POSITION, &[(1, near(1, 0, then)), (2, near(2, 0, 10)), (3, on_it)], [1, 2, 3]));
         // train 2 has it, does not ask and keeps its count
@@ -113,13 +113,13 @@ fn other_calls_keep_the_counts() {
 #[test]
 fn leaves_and_enters_again() {
     for due in [SPEED, REQUEST, GRANT, POSITION] {
-        let on_3 = RawTrain { route: 1, place: 2, position: 10, speed: 0, asks: 0, count: 12 };
+        let on_3 = RawTrain { route: 1, place: 2, position: 10, speed: 0, asks: 0, count: 12, length: 1 };
         let record = area_a_with(due, &[(4, on_3)], [0, 0, 4]);
         assert!(sound(&record));
         let (answer, left) = call_on(&record, &Call::Leave { train: 4 });
         assert_eq!((answer, left), (0, area_a_with(due, &[], [0; 3])));
-        let (answer, entered) = call_on(&left, &Call::Enter { train: 4, route: 2, speed: 7 });
-        let at_the_start = RawTrain { route: 2, place: 1, position: 0, speed: 7, asks: 0, count: 0 };
+        let (answer, entered) = call_on(&left, &Call::Enter { train: 4, route: 2, speed: 7, length: 1 });
+        let at_the_start = RawTrain { route: 2, place: 1, position: 0, speed: 7, asks: 0, count: 0, length: 1 };
         assert_eq!((answer, entered), (0, area_a_with(due, &[(4, at_the_start)], [0, 4, 0])));
     }
 }
@@ -132,7 +132,7 @@ fn a_train_off_with_a_count() {
             let off = RawTrain { count, ..RawTrain::OFF };
             let record = area_a_with(due, &[(9, off)], [0; 3]);
             assert!(!sound(&record) && Area::from_record(&record).is_none());
-            let calls = [Call::Enter { train: 9, route: 1, speed: 0 }, Call::Leave { train: 9 }];
+            let calls = [Call::Enter { train: 9, route: 1, speed: 0, length: 1 }, Call::Leave { train: 9 }];
             for call in calls.iter().chain(&AREA_A_CYCLE) {
                 assert_eq!(call_on(&record, call), (11, record));
             }
@@ -159,7 +159,7 @@ fn area_a_after_its_listing() {
 #[test]
 fn many_merges_in_one_step() {
     let mut area = load(&merging_area().file()).unwrap();
-    (1..=24).for_each(|train| assert_eq!(area.enter(train, train, 290), 0));
+    (1..=24).for_each(|train| assert_eq!(area.enter(train, train, 290, 1), 0));
     // 15 cycles to position 4350 of 9000, which is near; then speed and request
     for call in AREA_A_CYCLE.iter().cycle().take(4 * 15 + 2) {
         assert_eq!(area.call(call), 0);
@@ -187,7 +187,7 @@ fn many_merges_in_one_step() {
 fn counts_behind_a_train_that_gets_its_segment() {
     let tables = decode_tables(&merging_area().file());
     let mut record = Record { due: GRANT, ..Record::loaded(tables) };
-    let near = |route, place, count| RawTrain { route, place, position: 4350, speed: 0, asks: 1, count };
+    let near = |route, place, count| RawTrain { route, place, position: 4350, speed: 0, asks: 1, count, length: 1 };
     // on segments 1, 2, 3 by routes 1-3-4, 2-3-4, 1-3-4: trains 6 and 5 ask for 3, which train 7 on it does not leave yet
     (record.trains[5], record.trains[4], record.trains[6]) = (near(1, 1, 2), near(2, 1, 65_535), near(1, 2, 1));
     record.allocations[..3].copy_from_slice(&[6, 5, 7]);

@@ -3,7 +3,7 @@
 use reference::breaks::{from_rule, Where, BREAKS, PLACES};
 use reference::edges::{leaving_record, record_at, sound_record, EDGES};
 use reference::merges::{merging_record, Merging};
-use reference::random::{area, meeting, merges, Random};
+use reference::random::{area, meeting, merges, short_segments, Random};
 use reference::*;
 
 #[test]
@@ -12,8 +12,9 @@ fn areas_made_to_meet_the_rules_are_accepted() {
     for k in 0..3000 {
         let made = area(&mut random, k % 2 == 0);
         assert_eq!(load(&made.file()).err(), None, "{made:?}");
-        let made = merges(&mut random);
-        assert_eq!(load(&made.file()).err(), None, "{made:?}");
+        for made in [merges(&mut random), short_segments(&mut random)] {
+            assert_eq!(load(&made.file()).err(), None, "{made:?}");
+        }
     }
 }
 
@@ -132,14 +133,16 @@ fn one_step_is_wrong() {
 #[test]
 fn records_made_to_be_sound_are_sound() {
     let mut random = Random::new(10);
-    let mut most = 0;
+    let (mut most, mut over) = (0, 0);
     for k in 0..2000u32 {
         let tables = *load(&area(&mut random, k % 4 != 0).file()).unwrap().tables();
         let record = sound_record(&mut random, &tables, (k % 4) as u8);
         assert!(sound(&record), "{record:?}");
         most = most.max(record.trains.iter().filter(|train| train.is_on()).count());
+        over += record.trains.iter().filter(|train| train.is_on() && train.under(&tables).len() > 2).count();
     }
     assert_eq!(most, TRAINS.into());
+    assert!(over > 200, "{over} trains over more than two segments");
 }
 
 #[test]
@@ -164,7 +167,7 @@ fn each_edge_is_on_its_side() {
 #[test]
 fn records_made_before_merges() {
     let mut random = Random::new(18);
-    let (mut most_asking, mut most_contests) = (0, 0);
+    let (mut most_asking, mut most_contests, mut over) = (0, 0, 0);
     for k in 0..3000 {
         let description = if k % 3 == 0 { area(&mut random, k % 2 == 0) } else { merges(&mut random) };
         let tables = *load(&description.file()).unwrap().tables();
@@ -175,8 +178,10 @@ fn records_made_before_merges() {
         let contests = (1..=tables.n).filter(|&segment| before.allocated(segment) == 0);
         most_contests = most_contests.max(contests.filter(|segment| asked.iter().filter(|next| *next == segment).count() == 2).count());
         most_asking = most_asking.max(asked.len());
+        over += before.trains.iter().filter(|train| train.is_on() && train.under(&tables).len() > 1).count();
     }
     assert!(most_asking >= 20 && most_contests >= 8, "{most_asking} asking, {most_contests} contests");
+    assert!(over > 1000, "{over} trains over more than one segment");
 }
 
 /// A train that leaves with a count.
@@ -211,7 +216,7 @@ fn calls_by_which_trains_meet() {
             let twice = asked.iter().filter(|next| record.allocated(**next) == 0 && asked.iter().filter(|one| one == next).count() == 2);
             several += usize::from(twice.count() > 2);
             longest = longest.max(record.trains.iter().map(|train| train.count).max().unwrap_or(0));
-            area.call(&meeting(&mut random, &description, &record).call());
+            area.call(&meeting(&mut random, &description, &record, 6).call());
         }
     }
     assert!(longest > 10 && several > 10, "{longest} counted, {several} times several");

@@ -8,7 +8,7 @@ fn numbers_of_the_paper() {
     assert_eq!((SEGMENTS, ROUTES, ROUTE_SEGMENTS, TRAINS, WISHES), (62, 30, 31, 24, 24));
     assert_eq!(Bounds::DOCUMENT_01, Bounds { top_speed: 1000, longest: 1_000_000 });
     assert_eq!(Bounds::DOCUMENT_02, Bounds { top_speed: 2000, longest: 4_000_000 });
-    assert_eq!((TOP_SPEED, LONGEST, LAST_COUNT), (2000, 4_000_000, 65_535));
+    assert_eq!((TOP_SPEED, LONGEST, LAST_COUNT, LONGEST_TRAIN), (2000, 4_000_000, 65_535, 20_000));
     assert_eq!((BLOCKS, BLOCK_SIZE, FILE_SIZE), (5, 512, 2560));
     assert_eq!(FILE_SIZE, BLOCKS * BLOCK_SIZE);
     // two blocks of segments, two of routes
@@ -124,18 +124,24 @@ fn edges_of_the_file() {
     assert_eq!(refused(&low), (9, 1));
 }
 
-/// "Position + speed equal to the length moves on to 0."
+/// "Position + speed equal to the length moves on to 0." R-4 of document 02: the old segment is freed when the rear, here one behind the
+/// front, is at its end.
 #[test]
 fn edge_of_the_position_step() {
     let mut record = Record::loaded(decode_tables(&area_a().file()));
-    record.trains[0] = RawTrain { route: 1, place: 1, position: 5710, speed: 290, asks: 0, count: 9 };
+    record.trains[0] = RawTrain { route: 1, place: 1, position: 5710, speed: 290, asks: 0, count: 9, length: 1 };
     record.allocations[..3].copy_from_slice(&[1, 0, 1]);
     record.due = POSITION;
     let (number, back) = call_on(&record, &Call::Position);
     assert_eq!(number, 0);
-    assert_eq!(back.trains[0], RawTrain { route: 1, place: 2, position: 0, speed: 290, asks: 0, count: 9 });
-    assert_eq!(back.allocations[..3], [0, 0, 1]);
+    assert_eq!(back.trains[0], RawTrain { route: 1, place: 2, position: 0, speed: 290, asks: 0, count: 9, length: 1 });
+    assert_eq!(back.allocations[..3], [1, 0, 1]);
     assert_eq!(back.due, SPEED);
+    // one more frees the old segment
+    record.trains[0].position = 5711;
+    let (number, back) = call_on(&record, &Call::Position);
+    assert_eq!((number, back.trains[0].place, back.trains[0].position), (0, 2, 1));
+    assert_eq!(back.allocations[..3], [0, 0, 1]);
     // one less stays
     record.trains[0].position = 5709;
     let (number, back) = call_on(&record, &Call::Position);

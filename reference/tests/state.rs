@@ -10,14 +10,15 @@ fn where_everything_stands() {
     record.due = GRANT;
     record.allocations[0] = 7;
     record.allocations[61] = 255;
-    record.trains[6] = RawTrain { route: 1, place: 2, position: 0x0102_0304, speed: 0x0506, asks: 1, count: 0x0708 };
+    record.trains[6] = RawTrain { route: 1, place: 2, position: 0x0102_0304, speed: 0x0506, asks: 1, count: 0x0708, length: 0x090a };
     record.trains[23].asks = 255;
     record.trains[23].count = 65_535;
+    record.trains[23].length = 255;
     let mut state = [0; 832];
     (state[0], state[1], state[62]) = (2, 7, 255);
-    state[64 + 6 * 32..][..12].copy_from_slice(&[1, 2, 1, 0, 4, 3, 2, 1, 6, 5, 8, 7]);
+    state[64 + 6 * 32..][..14].copy_from_slice(&[1, 2, 1, 0, 4, 3, 2, 1, 6, 5, 8, 7, 10, 9]);
     state[64 + 23 * 32 + 2] = 255;
-    state[64 + 23 * 32 + 10..][..2].copy_from_slice(&[255, 255]);
+    state[64 + 23 * 32 + 10..][..4].copy_from_slice(&[255, 255, 255, 0]);
     assert_eq!(state_of(&record), state);
 }
 
@@ -29,7 +30,9 @@ fn a_state_is_read_back() {
         let mut record = sound_record(&mut random, &tables, (k % 4) as u8);
         assert_eq!(record_of(&tables, &state_of(&record)), record);
         // and any other
-        record.trains.iter_mut().for_each(|train| (train.asks, train.count) = (random.draw() as u8, random.draw() as u16));
+        for train in &mut record.trains {
+            (train.asks, train.count, train.length) = (random.draw() as u8, random.draw() as u16, random.draw() as u16);
+        }
         record.due = random.draw() as u8;
         assert_eq!(record_of(&tables, &state_of(&record)), record);
     }
@@ -43,7 +46,7 @@ fn bytes_that_hold_nothing() {
     state[63] = 9;
     for train in state[STATE_TRAINS_AT..].chunks_mut(STATE_TRAIN_SIZE) {
         train[3] = 9;
-        train[12..].fill(9);
+        train[14..].fill(9);
     }
     assert_eq!(record_of(&tables, &state), Record::loaded(tables));
 }

@@ -1,7 +1,7 @@
 -- Which refusal an enter and a leave are answered with, and what they make of the train and of what is allocated to it (document 01, "The
 -- calls" and "Refusals"; document 02, R-4).
 use Prim.Native.Nat.{ℕ, _≤_}
-use mathlib.Core.Path.{_≡_, refl, ap, _∙_}
+use mathlib.Core.Path.{_≡_, refl, _∙_}
 use mathlib.Core.Bool.{true, false, _&&_}
 use native.Mathlib.Omega.{arith}
 use lib.ListN.{length}

@@ -16,7 +16,7 @@ use Rattle.trains.specs.declared.Train.{Train}
 use Rattle.trains.specs.Due.{positionDue}
 use Rattle.trains.specs.Train.{mostTrains, off, movedTo, trainAt}
 use Rattle.trains.specs.Cycle.{movesOn, movedIn, moved, released, freed}
-use Rattle.trains.specs.Way.{startAfter, wayOf}
+use Rattle.trains.specs.Way.{wayOf}
 use Rattle.trains.specs.FreedFacts.{RearPasses}
 use Rattle.trains.proofs.Safety.{Moved}
 use Rattle.trains.proofs.Freed.{Movable, sound-movable, is-moved, released-iff, one-freed, outside-frees-none, long-frees-none}

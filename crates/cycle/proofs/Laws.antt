@@ -1,8 +1,8 @@
 -- What speed, request and position make of each train by the list of where the trains stand, they make of each by tables and allocations;
 -- and what position frees by the place of each rear is what the definition frees.
 use Prim.Native.Nat.{ℕ, _≤_}
-use mathlib.Core.Path.{_≡_, refl, sym, ap, _∙_}
-use mathlib.Core.Bool.{Bool, true, false, not, _&&_}
+use mathlib.Core.Path.{_≡_, refl, ap, _∙_}
+use mathlib.Core.Bool.{true, false, not}
 use mathlib.Core.List.{List}
 use native.Mathlib.Omega.{arith}
 use lib.Dec.{eqb}
@@ -10,15 +10,14 @@ use lib.ListN.{length}
 use borrow.Author.Tests.{ne-eqb, lt-ltb}
 use Rattle.lists.specs.Words.{if_then_else_, at, each, least}
 use Rattle.lists.proofs.Cases.{by-test, cases, lt-or-le}
-use Rattle.lists.proofs.Numbered.{nth-zero, nth-out, nth-each, nth-each-in, length-each, each-same, made-beside}
+use Rattle.lists.proofs.Numbered.{nth-zero, nth-out, nth-each-in, length-each, each-same, made-beside}
 use Rattle.tables.specs.Tables.{segmentAt}
 use Rattle.tables.specs.Facts.{Consistent}
 use Rattle.tables.specs.declared.Tables.{Tables}
 use Rattle.trains.specs.declared.Train.{Train}
 use Rattle.trains.specs.declared.Spot.{Spot}
 use Rattle.trains.specs.Train.{mostTrains, off, withSpeed, withAsking, trainAt, isOn, rearOf, occupiedIn}
-use Rattle.trains.specs.Cycle.{newSpeed, spedAt, sped, wants, requestedAt, requested, movesIn, movesOn, movedIn, moved, released, freed}
-use Rattle.trains.proofs.Safety.{Moved}
+use Rattle.trains.specs.Cycle.{newSpeed, spedAt, sped, wants, requestedAt, requested, movesIn, movedIn, moved, released, freed}
 use Rattle.trains.proofs.Freed.{Movable, is-moved, left-is}
 use Rattle.standing.specs.Spots.{noSpot, standsOf, spotsOf, spotAt}
 use Rattle.standing.proofs.Laws.{stands-same}

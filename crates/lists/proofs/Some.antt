@@ -1,13 +1,13 @@
 -- A test that holds for one of the numbers 1 to n.
 use Prim.Native.Nat.{ℕ, _+_, _≤_}
-use mathlib.Core.Path.{_≡_, refl}
+use mathlib.Core.Path.{_≡_}
 use mathlib.Core.Logic.{inl, inr}
 use mathlib.Core.Bool.{Bool, true, false, _||_}
 use native.Mathlib.Omega.{arith}
 use borrow.Author.Tests.{ltb-true, lt-ltb}
 use Rattle.lists.specs.Words.{least, some}
 use Rattle.lists.proofs.Cases.{by-test, not-both, cases, eq-or-ne, is-false, either, either-yes}
-use Rattle.lists.proofs.Loops.{least-nothing, least-le, least-holds, least-upto}
+use Rattle.lists.proofs.Loops.{least-le, least-holds, least-upto}
 
 module _ (p : ℕ → Bool) where
   pub record Found (n : ℕ) : Type 0 where

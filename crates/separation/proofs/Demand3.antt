@@ -1,7 +1,8 @@
 -- The proof of the claim: what is kept holds before the first call and after each, and the claim's sentences follow from it.
 use Prim.Native.Nat.{ℕ}
 use mathlib.Core.Path.{_≡_, refl, ap, _∙_}
-use mathlib.Core.Bool.{false}
+use mathlib.Core.Logic.{_↔_}
+use mathlib.Core.Bool.{true, false}
 use mathlib.Core.List.{List, [], _∷_}
 use native.Mathlib.Omega.{arith}
 use Rattle.lists.specs.Words.{nth}
@@ -12,7 +13,7 @@ use Rattle.tables.specs.Facts.{Meets}
 use Rattle.tables.proofs.Consistency.{consistent}
 use Rattle.decoding.specs.Decoding.{decoded}
 use Rattle.reading.proofs.Accepted.{accepted-iff}
-use Rattle.trains.specs.Train.{off}
+use Rattle.trains.specs.Train.{off, trainAt, occupied}
 use Rattle.answers.specs.declared.Answer.{Answer}
 use Rattle.answers.specs.declared.Answer.the-variants.{Done}
 use Rattle.area.specs.declared.Area.{Area}
@@ -22,6 +23,7 @@ use Rattle.loading.specs.Load.{fresh, loaded}
 use Rattle.loading.proofs.Loading.{done-iff, done-fresh}
 use Rattle.separation.specs.Calls.{Call, called}
 use Rattle.separation.specs.Runs.{World, worldBy, next, afterFrom, begin, after}
+use Rattle.separation.specs.Where.{OnArea, OnSegment}
 use Rattle.separation.specs.Claim.{Separated, Demand3}
 use Rattle.separation.proofs.Kept.{Kept, on-same, kept-sound}
 use Rattle.separation.proofs.Going.{KeptIn, Went, went-called}
@@ -118,3 +120,15 @@ demand3 file done calls =
     let M = file-meets file done in
     let start = begin (fresh T) in
     rw (from-fresh file done calls) (good-separated T M (afterFrom start calls) (good-from T M start (good-fresh T M) calls))
+
+-- THE CLAIM: after every list from such a file, a train on the area is on a segment, by its way and the length that its enter named, exactly
+-- where the record has the segment under it, by lengths summed back from its front
+pub under-same :
+    (file : List ℕ) → numberOf (loaded file .answer) ≡ 0 → (calls : List Call) (t s : ℕ) → OnArea (decoded file) (after file calls) t
+    → OnSegment (decoded file) (after file calls) t s ↔ (occupied (decoded file) (trainAt (after file calls .area .trains) t) s ≡ true)
+under-same file done calls =
+    let T = decoded file in
+    let M = file-meets file done in
+    let start = begin (fresh T) in
+    let w = afterFrom start calls in
+    rw (from-fresh file done calls) (on-iff T (consistent T M) w (kept-by T M w (good-from T M start (good-fresh T M) calls)))

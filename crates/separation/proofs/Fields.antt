@@ -121,8 +121,7 @@ module _ (T : Tables) (K : Consistent T) (w : World) (k : Kept T (w .area .alloc
         segment = ap (λ (r : ℕ). segmentAt (T .routebytes) r (b .place)) (sym (route-of t o)) ∙ b .segment;
       }
 
-  -- THE CLAIM: a train on the area is on a segment, by its way and the length that its enter named, exactly where the record has the segment
-  -- under it
+  -- a train on the area is on a segment, by its way and the length that its enter named, exactly where the record has the segment under it
   pub on-iff : (t s : ℕ) → OnArea T w t → OnSegment T w t s ↔ (occupied T (x t) s ≡ true)
   on-iff t s o = (on-occupied t s, occupied-on t s o)
 

@@ -1,7 +1,7 @@
 -- Where the trains are sound, nothing is left of the allocations when what each train may hold is taken away exactly where every allocation
 -- is sound.
 use Prim.Native.Nat.{ℕ, _≤_}
-use mathlib.Core.Path.{_≡_, refl, sym, ap, _∙_}
+use mathlib.Core.Path.{_≡_, sym, ap, _∙_}
 use mathlib.Core.Logic.{inl, inr}
 use mathlib.Core.Bool.{Bool, true, false, _&&_, _||_, and-eq-true-iff}
 use mathlib.Core.List.{List}
@@ -16,7 +16,7 @@ use Rattle.lists.proofs.Numbered.{nth-where}
 use Rattle.lists.proofs.Some.{some-found, found-some}
 use Rattle.tables.specs.declared.Tables.{Tables}
 use Rattle.tables.specs.Bounds.{mostSegments}
-use Rattle.tables.specs.Facts.{Consistent, IsSegment}
+use Rattle.tables.specs.Facts.{Consistent}
 use Rattle.trains.specs.declared.Train.{Train}
 use Rattle.trains.specs.declared.Spot.{Spot}
 use Rattle.trains.specs.Train.{mostTrains, off, trainAt, isOn, nextOf, holdsNext, occupied, occupiedIn, ahead}

@@ -2,17 +2,17 @@
 -- stand.
 use Prim.Native.Nat.{ℕ, _-_, _≤_}
 use mathlib.Core.Path.{_≡_, ap, _∙_}
-use mathlib.Core.Bool.{true, _&&_, _||_, and-false}
+use mathlib.Core.Bool.{true, _&&_}
 use mathlib.Core.List.{List}
 use native.Mathlib.Nat.{le-refl, not-suc-le-zero}
 use native.Mathlib.Omega.{arith}
-use lib.Dec.{leb, eqb}
-use lib.ListN.{length, getD}
-use borrow.Author.Tests.{lt-ltb, le-leb, lt-leb, eq-eqb}
-use Rattle.lists.proofs.Cases.{if-case, cases, lt-or-le, eq-or-ne}
+use lib.Dec.{eqb}
+use lib.ListN.{length}
+use borrow.Author.Tests.{lt-ltb}
+use Rattle.lists.proofs.Cases.{if-case}
 use Rattle.lists.specs.Words.{at, every}
 use Rattle.lists.proofs.Loops.{every-same}
-use Rattle.lists.proofs.Numbered.{nth-in, nth-out, nth-where, nth-each-in}
+use Rattle.lists.proofs.Numbered.{nth-where, nth-each-in}
 use Rattle.braking.specs.Braking.{S}
 use Rattle.braking.proofs.Laws.{S-B}
 use Rattle.tables.specs.declared.Tables.{Tables}
@@ -21,7 +21,7 @@ use Rattle.trains.specs.declared.Train.{Train}
 use Rattle.trains.specs.declared.Spot.{Spot}
 use Rattle.trains.specs.Train.{mostTrains, off, trainAt, isOn, ownLimit}
 use Rattle.trains.specs.Spot.{spotOf}
-use Rattle.trains.specs.Sound.{offSound, placeSound, toRun, brakingSound, askingSound, standsSound, trainSound, holderSound}
+use Rattle.trains.specs.Sound.{offSound, placeSound, toRun, brakingSound, askingSound, standsSound, trainSound}
 use Rattle.standing.specs.Spots.{noSpot, standsOf, spotsOf, spotAt}
 use Rattle.standing.proofs.Laws.{stands-same}
 use Rattle.soundness.specs.Stopping.{Stopping}

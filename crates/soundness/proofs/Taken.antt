@@ -1,7 +1,7 @@
 -- What is left of a list of allocations when the segments of which a test holds are taken away.
 use Prim.Native.Nat.{ℕ, suc}
 use mathlib.Core.Path.{_≡_, refl, ap, _∙_}
-use mathlib.Core.Bool.{Bool, true, false, _||_}
+use mathlib.Core.Bool.{Bool, false, _||_}
 use mathlib.Core.List.{List, [], _∷_}
 use Rattle.lists.specs.Words.{if_then_else_, each}
 use Rattle.lists.proofs.Cases.{by-test}

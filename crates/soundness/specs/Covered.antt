@@ -9,7 +9,7 @@ use Rattle.lists.specs.Words.{if_then_else_, some}
 use Rattle.tables.specs.Tables.{segmentAt}
 use Rattle.trains.specs.declared.Train.{Train}
 use Rattle.trains.specs.declared.Spot.{Spot}
-use Rattle.trains.specs.Train.{mostTrains, trainAt, isOn}
+use Rattle.trains.specs.Train.{trainAt, isOn}
 use Rattle.standing.specs.Spots.{spotAt}
 
 -- s is under the train, or its next and allocated to it

@@ -1,7 +1,7 @@
 // The conditions of a sound record on trains and allocations. Of a record handed in nothing is known but what is tested first.
 ghost use mathlib.Core.Path.{_≡_};
 ghost use mathlib.Core.Bool.{true, _&&_};
-ghost use Prim.Native.Nat.{ℕ, _≤_};
+ghost use Prim.Native.Nat.{_≤_};
 ghost use lib.Dec.{leb, eqb};
 ghost use Rattle.lists.specs.Words.{if_then_else_, at, each, every, some};
 ghost use Rattle.braking.specs.Braking.{S};
@@ -12,7 +12,6 @@ ghost use Rattle.trains.specs.Sound.{offSound, placeSound, toRun, brakingSound,
 ghost use Rattle.standing.specs.Spots.{spotAt};
 ghost use Rattle.soundness.specs.Stopping.{Stopping};
 ghost use Rattle.soundness.specs.Covered.{covers, leftOver};
-use lists::entry_u8;
 use trains::Spot;
 use trains::Train;
 
@@ -153,17 +152,17 @@ fn take_train<'a>(routebytes: &'a [u8; 960], left: &'a mut [u8], spot: Spot, x: 
     }
 }
 
+// No early return: the 62 bytes are looked at at one stroke.
 fn none_left(left: &[u8; 62]) -> bool
     ensures { λ r. ⌜ r ≡ every mostSegments (λ s. eqb (at (now (left .entry)) s) 0) ⌝ }
 {
-    let mut s: usize = 0;
-    while s < 62 {
-        s += 1;
-        if entry_u8(left, s) != 0 {
-            return false;
-        }
+    let mut none = true;
+    let mut i: usize = 0;
+    while i < 62 {
+        none = none & (left[i] == 0);
+        i += 1;
     }
-    true
+    none
 }
 
 pub fn allocations_sound(

@@ -6,9 +6,9 @@ use mathlib.Core.List.{List, [], _∷_}
 use lib.ListN.{replicate}
 use Rattle.lists.specs.Words.{nth, at, every, least}
 use Rattle.tables.specs.declared.Tables.{Tables}
-use Rattle.tables.specs.Tables.{countOf, segmentAt}
+use Rattle.tables.specs.Tables.{segmentAt}
 use Rattle.trains.specs.declared.Train.{Train}
-use Rattle.trains.specs.Train.{ownIn, rearFrom, rearIn, occupiedIn, occupied, holdsAllIn, entered}
+use Rattle.trains.specs.Train.{ownIn, rearFrom, rearIn, occupiedIn, occupied, holdsAllIn}
 use Rattle.trains.specs.Cycle.{movesIn, movedIn, released}
 
 -- a line of five segments of 1000 decimetres each, all on route 1

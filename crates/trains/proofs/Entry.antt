@@ -25,26 +25,26 @@ without top n h = cases h (λ l. rw (lt-leb 1 n l)) (λ l. rw (lt-leb n top l) (
 module _ (T : Tables) (A : List ℕ) (trains : List Train) (t : ℕ) (j : Journey) (v : ℕ) where
   -- THE CLAIM: first 13, whatever route, length and speed are
   pub entry-train : (t < 1) ⊎ (24 < t) → firstOf (entryTests T A trains t j v) .number ≡ 13
-  entry-train h = rw (without 24 t h)
+  entry-train h = simp (without 24 t h)
 
   module _ (isTrain : (1 ≤ t) × (t ≤ 24)) where
     -- THE CLAIM: then 14
     pub entry-on : isOn (trainAt trains t) ≡ true → firstOf (entryTests T A trains t j v) .number ≡ 14
-    entry-on on = rw (within 24 t isTrain, on)
+    entry-on on = simp (within 24 t isTrain, on)
 
     module _ (isOff : isOn (trainAt trains t) ≡ false) where
       -- THE CLAIM: then 16, whatever the length is
       pub entry-route : (j .route < 1) ⊎ (T .routes < j .route) → firstOf (entryTests T A trains t j v) .number ≡ 16
-      entry-route h = rw (within 24 t isTrain, isOff, without (T .routes) (j .route) h)
+      entry-route h = simp (within 24 t isTrain, isOff, without (T .routes) (j .route) h)
 
       module _ (isRoute : (1 ≤ j .route) × (j .route ≤ T .routes)) where
         -- THE CLAIM: then 23, whatever the route's first segment and the speed are
         pub entry-length : (j .length < 1) ⊎ (20000 < j .length) → firstOf (entryTests T A trains t j v) .number ≡ 23
-        entry-length h = rw (within 24 t isTrain, isOff, within (T .routes) (j .route) isRoute, without 20000 (j .length) h)
+        entry-length h = simp (within 24 t isTrain, isOff, within (T .routes) (j .route) isRoute, without 20000 (j .length) h)
 
         -- THE CLAIM: then 17, 18 and 19, in which the length plays no part: trains of all lengths of 1 to 20,000 are answered alike
         pub entry-rest :
             (1 ≤ j .length) × (j .length ≤ 20000)
             → let first = firstSegment T (j .route) in
             firstOf (entryTests T A trains t j v) .number ≡ firstOf (not (isEntry T first) ⇒ 17 ∷ ltb 0 (at A first) ⇒ 18 ∷ ltb (at (T .limits) first) v ⇒ 19 ∷ []) .number
-        entry-rest h = rw (within 24 t isTrain, isOff, within (T .routes) (j .route) isRoute, within 20000 (j .length) h)
+        entry-rest h = simp (within 24 t isTrain, isOff, within (T .routes) (j .route) isRoute, within 20000 (j .length) h)

@@ -3,10 +3,10 @@ use Prim.Native.Nat.{ℕ, _+_, _-_, _≤_, _<_}
 use mathlib.Core.Path.{_≡_, refl, sym, ap, _∙_}
 use mathlib.Core.Logic.{_↔_}
 use mathlib.Core.List.{List}
-use mathlib.Core.Bool.{Bool, true, false, not, _&&_, and-eq-true-iff}
+use mathlib.Core.Bool.{true, false, not, and-eq-true-iff}
 use native.Mathlib.Omega.{arith}
-use lib.Dec.{ltb, eqb}
-use borrow.Author.Tests.{eqb-true, eqb-false, eq-eqb, ne-eqb, lt-ltb, not-true}
+use lib.Dec.{eqb}
+use borrow.Author.Tests.{eq-eqb, ne-eqb, lt-ltb, not-true}
 use Rattle.lists.specs.Words.{if_then_else_, at}
 use Rattle.lists.proofs.Cases.{by-test, cases, lt-or-le, eq-or-ne, not-both, is-false, facts}
 use Rattle.braking.proofs.Laws.{S-above}
@@ -14,15 +14,15 @@ use Rattle.tables.specs.declared.Tables.{Tables}
 use Rattle.tables.specs.Tables.{countOf, segmentAt}
 use Rattle.tables.specs.Facts.{Consistent}
 use Rattle.trains.specs.declared.Train.{Train}
-use Rattle.trains.specs.Train.{isOn, ownIn, ownOf, nextOf, ownLength, ownLimit, holdsNext, rearOf, occupied}
+use Rattle.trains.specs.Train.{ownIn, ownOf, nextOf, ownLength, ownLimit, holdsNext, rearOf, occupied}
 use Rattle.trains.specs.Cycle.{movesIn, movesOn, movedIn, moved, released}
 use Rattle.trains.specs.Way.{startAfter, wayOf}
 use Rattle.trains.specs.FreedFacts.{RearPasses}
 use Rattle.trains.specs.SoundFacts.{SoundTrain}
 use Rattle.trains.specs.Due.{positionDue}
 use Rattle.trains.proofs.Rear.{start-step, start-mono, rear-iff, rear-low-of}
-use Rattle.trains.proofs.Segments.{Beneath, occupied-beneath, beneath-occupied, rear-upto}
-use Rattle.trains.proofs.Safety.{OnRoute, run-later, held-next, own-is, segments-rise, one-place-of, Moved, stays-on, goes-on, rear-after, under-before}
+use Rattle.trains.proofs.Segments.{occupied-beneath, beneath-occupied, rear-upto}
+use Rattle.trains.proofs.Safety.{OnRoute, run-later, held-next, own-is, one-place-of, Moved, stays-on, goes-on, rear-after, under-before}
 
 -- a train on the area that a position step can move: what a sound record says of it
 pub record Movable (T : Tables) (x : Train) : Type 0 where

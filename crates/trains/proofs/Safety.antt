@@ -22,7 +22,7 @@ use Rattle.trains.specs.Cycle.{low, upperEnd, newSpeed, wants, movesIn, 
 use Rattle.trains.specs.Sound.{toRun}
 use Rattle.trains.specs.Way.{startAfter}
 use Rattle.trains.proofs.Rear.{start-step, rear-iff}
-use Rattle.trains.proofs.Segments.{Beneath, occupied-beneath, beneath-occupied, own-occupied, ahead-next, occupied-same, ahead-same}
+use Rattle.trains.proofs.Segments.{occupied-beneath, beneath-occupied, own-occupied, ahead-next, occupied-same, ahead-same}
 
 -- place p of route r is one of the tables
 pub record OnRoute (T : Tables) (r p : ℕ) : Type 0 where

@@ -4,8 +4,9 @@
 //!     areas verdicts      writes, for each file, its name and the line that `verdict` must print for it
 //!     areas entries       writes, for each file on which `area_a` is refused an entry, its name and the line that it must print
 //!
-//! Each file is Area A of document 01 with one thing changed, but for `full`, which has every segment and every route, and for
-//! `fast_line` and those at the bounds of R-3 of document 02, which have Area A's shape with speeds and lengths that fit.
+//! Each file is Area A of document 01 with one thing changed, but for `full`, which has every segment and every route, for `ore_line`,
+//! which goes on after Area A's merge, and for `fast_line` and those at the bounds of R-3 of document 02, which have Area A's shape with
+//! speeds and lengths that fit.
 use reference::file::{route_start, segment_start};
 use reference::*;
 use std::io::Write;
@@ -66,6 +67,7 @@ fn files() -> Vec<(&'static str, Vec<u8>, &'static str)> {
         ("area_a", a.clone(), "0 0 done/segments 3 routes 2"),
         ("full", full_area().file(), "0 0 done/segments 62 routes 30"),
         ("fast_line", fast_line().file(), "0 0 done/segments 3 routes 2"),
+        ("ore_line", ore_line().file(), "0 0 done/segments 4 routes 2"),
         ("no_entry", planned(|p| p.segments[1].flags = 0), "0 0 done/segments 3 routes 2"),
         ("one_entry", planned(|p| p.routes[1] = vec![1, 3]), "0 0 done/segments 3 routes 2"),
         ("limit_249", planned(|p| p.segments[0].limit = 249), "0 0 done/segments 3 routes 2"),

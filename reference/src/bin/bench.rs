@@ -116,45 +116,77 @@ fn one_call(name: String, file: &[u8], area: &Area, call: &Call) -> Times {
 /// The area of a file with so many trains on, far enough that trains ask and are granted.
 fn running(file: &[u8], trains: u16) -> Area {
     let mut area = load(file).expect("the area is accepted");
-    (1..=trains).for_each(|t| assert_eq!(area.enter(t, t, 200), 0));
+    (1..=trains).for_each(|t| assert_eq!(area.enter(t, t, 200, 1), 0));
     for _ in 0..15 {
         AREA_A_CYCLE.iter().for_each(|call| assert_eq!(area.call(call), 0));
     }
     area
 }
 
-/// The area with a train standing at the start of its route's last segment.
+/// The area with a train of length 1 standing on its route's last segment, past its start.
 fn at_the_last(area: &Area, number: u8) -> Area {
     let mut record = area.record();
     record.allocations.iter_mut().filter(|train| **train == number).for_each(|train| *train = 0);
     let train = &mut record.trains[usize::from(number) - 1];
-    (train.place, train.position, train.speed) = (record.tables.route(train.route).count, 0, 0);
+    (train.place, train.position, train.speed) = (record.tables.route(train.route).count, 1, 0);
     record.allocations[usize::from(train.own(&record.tables)) - 1] = number;
     Area::from_record(&record).expect("the record is sound")
 }
 
-/// The calls of a cycle one after the other, and a train that leaves and enters anew, each on the record where it is answered done;
-/// and their mean.
+/// The calls of a cycle one after the other, each on the record where it is answered done, and the area after them.
+fn steps(name: &str, file: &[u8], mut area: Area) -> (Vec<Times>, Area) {
+    let steps = ["speed", "request", "grant", "position"].into_iter().zip(&AREA_A_CYCLE).map(|(step, call)| {
+        let times = one_call(format!("{step}, {name}"), file, &area, call);
+        area.call(call);
+        times
+    });
+    (steps.collect(), area)
+}
+
+/// The calls of a cycle, and a train that leaves and enters anew; and their mean.
 fn calls(name: &str, description: &Description, trains: u16) -> Vec<Times> {
     let file = description.file();
-    let mut area = running(&file, trains);
-    let mut times = vec![];
-    for (step, call) in ["speed", "request", "grant", "position"].into_iter().zip(&AREA_A_CYCLE) {
-        times.push(one_call(format!("{step}, {name}"), &file, &area, call));
-        area.call(call);
-    }
-    times.extend(leave_and_enter(name, &file, &area, trains));
+    let (mut times, area) = steps(name, &file, running(&file, trains));
+    times.extend(leave_and_enter(name, &file, at_the_last(&area, trains as u8), trains, trains, 1));
     times.push(Times::mean(format!("mean call, {name}"), &times));
     times
 }
 
-fn leave_and_enter(name: &str, file: &[u8], area: &Area, train: u16) -> [Times; 2] {
-    let mut area = at_the_last(area, train as u8);
-    [("leave", Call::Leave { train }), ("enter", Call::Enter { train, route: train, speed: 0 })].map(|(step, call)| {
+/// A train on its route's last segment leaves, and enters on a route, with a length.
+fn leave_and_enter(name: &str, file: &[u8], mut area: Area, train: u16, route: u16, length: u16) -> [Times; 2] {
+    [("leave", Call::Leave { train }), ("enter", Call::Enter { train, route, speed: 0, length })].map(|(step, call)| {
         let times = one_call(format!("{step}, {name}"), file, &area, &call);
         area.call(&call);
         times
     })
+}
+
+/// The full area with 24 trains, one behind the other from segment 60 back to segment 7, over one, two and four segments. The rear of each
+/// second one comes past an end in the next cycle. Each is on the route that ends with its front's segment, if there is one.
+fn long_trains(file: &[u8]) -> Area {
+    let mut record = load(file).expect("the area is accepted").record();
+    let mut front = ROUTES + ROUTE_SEGMENTS - 1;
+    for (number, train) in (1..).zip(&mut record.trains) {
+        let (position, length, over): (u32, u16, u8) =
+            [(4000, 1, 1), (4000, 4100, 2), (4000, 13_000, 2), (1000, LONGEST_TRAIN, 4)][usize::from(number - 1) % 4];
+        let route = front.saturating_sub(ROUTE_SEGMENTS - 1).clamp(1, ROUTES);
+        *train = RawTrain { route, place: front - route + 1, position, speed: 200, length, ..RawTrain::OFF };
+        record.allocations[usize::from(front - over)..usize::from(front)].fill(number);
+        front -= over;
+    }
+    Area::from_record(&record).expect("the record is sound")
+}
+
+/// The calls on that area, and their mean; the train that leaves is over four segments, and enters with that length.
+fn long_train_calls() -> Vec<Times> {
+    let (name, file) = ("full area, long trains", full_area().file());
+    let area = long_trains(&file);
+    let may_leave = |number: &u8| *number % 4 == 0 && area.record().train(*number).next(area.tables()).is_none();
+    let train = (1..=TRAINS).find(may_leave).expect("a train over four segments is at its route's end");
+    let (mut times, area) = steps(name, &file, area);
+    times.extend(leave_and_enter(name, &file, area, train.into(), 1, LONGEST_TRAIN));
+    times.push(Times::mean(format!("mean call, {name}"), &times));
+    times
 }
 
 /// Area A's shape at the greatest `gmax`. `d` has room for the longest braking distance and a cycle at the top speed, so that a train can
@@ -169,7 +201,8 @@ fn at_top_speed(file: &[u8], due: u8) -> Area {
     for number in 1..=2 {
         let position = record.tables.segment(number).length - record.tables.d;
         let asks = u8::from(due == GRANT);
-        record.trains[usize::from(number) - 1] = RawTrain { route: number, place: 1, position, speed: TOP_SPEED, asks, count: 0 };
+        let train = RawTrain { route: number, place: 1, position, speed: TOP_SPEED, asks, length: 1, ..RawTrain::OFF };
+        record.trains[usize::from(number) - 1] = train;
         record.allocations[usize::from(number) - 1] = number;
     }
     Area::from_record(&record).expect("the record is sound")
@@ -182,7 +215,7 @@ fn faster_calls(name: &str, description: &Description) -> Vec<Times> {
     for (due, (step, call)) in (SPEED..).zip(["speed", "request", "grant", "position"].into_iter().zip(&cycle(&[TOP_SPEED; WISHES]))) {
         times.push(one_call(format!("{step}, {name}"), &file, &at_top_speed(&file, due), call));
     }
-    times.extend(leave_and_enter(name, &file, &at_top_speed(&file, SPEED), 2));
+    times.extend(leave_and_enter(name, &file, at_the_last(&at_top_speed(&file, SPEED), 2), 2, 2, 1));
     times.push(Times::mean(format!("mean call, {name}"), &times));
     times
 }
@@ -226,7 +259,7 @@ fn grants() -> Vec<Times> {
 /// A list of calls, by call: from the file by all three, in one run, call by call on a kept record, and with the second program.
 fn replay(name: &str, description: &Description, trains: u16) -> Times {
     let file = description.file();
-    let mut calls: Vec<Call> = (1..=trains).map(|t| Call::Enter { train: t, route: t, speed: 200 }).collect();
+    let mut calls: Vec<Call> = (1..=trains).map(|t| Call::Enter { train: t, route: t, speed: 200, length: 1 }).collect();
     for _ in 0..200 {
         calls.extend(AREA_A_CYCLE);
     }
@@ -264,6 +297,7 @@ fn main() {
     let writes = [writes("Area A", &area_a(), 2), writes("full area", &full_area(), TRAINS.into())];
     let mut times = calls("Area A", &area_a(), 2);
     times.extend(calls("full area", &full_area(), TRAINS.into()));
+    times.extend(long_train_calls());
     times.extend(grants());
     times.push(replay("Area A", &area_a(), 2));
     times.push(replay("full area", &full_area(), TRAINS.into()));

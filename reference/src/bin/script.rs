@@ -2,10 +2,10 @@
 //!
 //!     script <SCENARIO    reads the text from standard input and writes the script to standard output
 //!
-//! A line has a call with its numbers, or nothing; `#` starts a comment. The calls are `enter TRAIN ROUTE SPEED`, `leave TRAIN`,
-//! `speed WISH` for all 24 trains, `speed WISH WISH ..` with just these wishes, `request`, `grant`, `position`, and `cycle WISH`
-//! for the four steps of a cycle. Where a line cannot be read, nothing is written. A line ends with a line feed, a carriage return,
-//! or both.
+//! A line has a call with its numbers, or nothing; `#` starts a comment. The calls are `enter TRAIN ROUTE SPEED` for a train of length
+//! 1, `enter TRAIN ROUTE SPEED LENGTH`, `leave TRAIN`, `speed WISH` for all 24 trains, `speed WISH WISH ..` with just these wishes,
+//! `request`, `grant`, `position`, and `cycle WISH` for the four steps of a cycle. Where a line cannot be read, nothing is written. A
+//! line ends with a line feed, a carriage return, or both.
 use reference::script::script_of;
 use reference::{cycle, Call, MOST_WISHES, WISHES};
 use std::io::{Read, Write};
@@ -22,8 +22,13 @@ fn number(text: &str) -> Result<u16, String> {
 fn exactly<const N: usize>(call: &str, names: [&str; N], given: &[u16]) -> Result<[u16; N], String> {
     given.try_into().map_err(|_| {
         let takes = if N == 0 { "no number".into() } else { names.join(" ") };
-        format!("'{call}' takes {takes}, and {} given", counted(given.len()))
+        wrongly_given(call, &takes, given.len())
     })
+}
+
+/// What is said where another number of numbers is given than a call takes.
+fn wrongly_given(call: &str, takes: &str, given: usize) -> String {
+    format!("'{call}' takes {takes}, and {} given", counted(given))
 }
 
 fn counted(numbers: usize) -> String {
@@ -45,8 +50,12 @@ fn items(line: &str) -> Result<Vec<u16>, String> {
     let given = parts.map(number).collect::<Result<Vec<u16>, String>>()?;
     Ok(match call {
         "enter" => {
-            let [train, route, speed] = exactly(call, ["TRAIN", "ROUTE", "SPEED"], &given)?;
-            script_of(&[Call::Enter { train, route, speed }])
+            let (train, route, speed, length) = match given[..] {
+                [train, route, speed] => (train, route, speed, 1),
+                [train, route, speed, length] => (train, route, speed, length),
+                _ => return Err(wrongly_given(call, "TRAIN ROUTE SPEED or TRAIN ROUTE SPEED LENGTH", given.len())),
+            };
+            script_of(&[Call::Enter { train, route, speed, length }])
         }
         "leave" => {
             let [train] = exactly(call, ["TRAIN"], &given)?;

@@ -1,6 +1,6 @@
 -- After each turn the segments from the rear's place up to the place come to are taken away.
 use Prim.Native.Nat.{ℕ, _+_, _-_, _≤_, _<_}
-use mathlib.Core.Path.{_≡_, refl, sym, ap, _∙_}
+use mathlib.Core.Path.{_≡_, sym, ap, _∙_}
 use mathlib.Core.Logic.{_⊎_, inl, inr}
 use mathlib.Core.Bool.{Bool, false, _&&_, _||_}
 use mathlib.Core.List.{List}
@@ -9,7 +9,6 @@ use lib.Dec.{leb, eqb}
 use lib.ListN.{length}
 use borrow.Author.Needs.{needs}
 use borrow.Author.Tests.{le-leb, lt-leb, eq-eqb, ne-eqb}
-use denote.Ref.{now}
 use Rattle.lists.specs.Words.{some}
 use Rattle.lists.proofs.Cases.{cases, eq-or-ne}
 use Rattle.lists.proofs.Numbered.{length-each}

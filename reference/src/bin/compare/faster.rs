@@ -142,10 +142,8 @@ impl Seen {
                 self.moved_on += u64::from(tables.segment(was.own(tables)).length > 1_000_000);
             }
             self.furthest = self.furthest.max(is.position.into());
-            let passed = &tables.route(is.route).listed()[..usize::from(is.place) - 1];
-            if !passed.is_empty() {
-                let start: u64 = passed.iter().map(|&segment| u64::from(tables.segment(segment).length)).sum();
-                self.way = self.way.max(start + u64::from(is.position));
+            if is.place > 1 {
+                self.way = self.way.max(is.way(tables));
             }
         }
         self.fast += u64::from(is_fast);

@@ -14,7 +14,9 @@ use reference::*;
 const RECORDS: u64 = 50_000;
 const OFF_WITH_A_COUNT: u64 = 15_000;
 const LEFT_WITH_A_COUNT: u64 = 15_000;
-const CALLS: u64 = 500_000;
+const CALLS: u64 = 800_000;
+/// One train in so many of the lists in which trains meet has any length.
+const LONG: u64 = 6;
 
 /// What grant steps came to.
 #[derive(Default)]
@@ -203,7 +205,7 @@ impl Made {
         scribble(&mut state[STATE_ALLOCATIONS.end..STATE_TRAINS_AT]);
         for train in state[STATE_TRAINS_AT..].chunks_mut(STATE_TRAIN_SIZE) {
             scribble(&mut train[3..4]);
-            scribble(&mut train[12..]);
+            scribble(&mut train[14..]);
         }
         let mut answer = [99];
         let ran = rbu::bytes::run_record(file, &items_of(&Call::Grant), &mut answer, &mut state);
@@ -247,9 +249,10 @@ impl Made {
         }
         let route = *random.of(&routes);
         let speed = random.edgy(0, tables.segment(first(route)).limit.into()) as u16;
-        let enter = Call::Enter { train: number.into(), route: route.into(), speed };
+        let length = random.edgy(1, LONGEST_TRAIN.into()) as u16;
+        let enter = Call::Enter { train: number.into(), route: route.into(), speed, length };
         let (_, answer, entered) = both_ways(self.seed, what, file, &left, &enter, kept);
-        if answer != 0 || *entered.train(number) != (RawTrain { route, place: 1, speed, ..RawTrain::OFF }) {
+        if answer != 0 || *entered.train(number) != (RawTrain { route, place: 1, speed, length, ..RawTrain::OFF }) {
             fail(format_args!("a record {what} and enters: the second program is wrong (seed {}): {left:?}", self.seed));
         }
         let (mut answers, mut state) = ([99; 2], state_of(&record));
@@ -274,7 +277,7 @@ fn meetings(seed: u64, kept: &mut kept::Seen) {
         lists += 1;
         let mut list = List::new(seed, lists, &area, kept);
         for _ in 0..random.within(200, 1500) {
-            let call = random::meeting(&mut random, &area, &list.record);
+            let call = random::meeting(&mut random, &area, &list.record, LONG);
             let (before, is_grant) = (list.record, matches!(call, Owned::Grant));
             if list.call(call, kept) == 0 && is_grant {
                 grants.note(&before, &list.record);
@@ -333,7 +336,7 @@ fn waits(seed: u64, kept: &mut kept::Seen) {
     while wait.record.allocated(2) != 0 {
         wait.cycle(kept, &mut grants);
     }
-    wait.call(&Call::Enter { train: 3, route: 2, speed: 200 }, kept, &mut grants);
+    wait.call(&Call::Enter { train: 3, route: 2, speed: 200, length: 1 }, kept, &mut grants);
     while wait.record.train(3).count < LAST_COUNT - 1 {
         wait.cycle(kept, &mut grants);
     }

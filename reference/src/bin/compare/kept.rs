@@ -1,7 +1,8 @@
 //! The core on a record that is kept between calls: what every start and every call leaves there, field by field, its soundness and its
 //! report. The files, the lists and the records tell it theirs, and it tells them on to what is sent back out, and the files to what the
-//! bounds of document 01 say.
+//! bounds of document 01 say. It carries what the calls tell of the trains' lengths.
 use crate::bounds;
+use crate::lengths;
 use crate::sent::{self, Source};
 use crate::{counted, differ, fail, same, Answers};
 use reference::kept::{call_kept, kept_of, record_of_kept, tables_of, trains_of};
@@ -17,12 +18,13 @@ const DAMAGED: u64 = 20_000;
 const RANDOM: u64 = 5_000;
 const UNSOUND_BY_ASKS: u64 = 5_000;
 const UNSOUND_BY_COUNTS: u64 = 15_000;
+const UNSOUND_BY_LENGTHS: u64 = 3_500;
 
 /// One refused start in so many has its blank record sent back out.
 const BLANK_EACH: u64 = 16;
 
 /// The answers of calls: 1 to 10 are load's.
-const ANSWERS: [usize; 12] = [0, 11, 12, 13, 14, 15, 16, 17, 18, 19, 20, 21];
+const ANSWERS: [usize; 13] = [0, 11, 12, 13, 14, 15, 16, 17, 18, 19, 20, 21, 23];
 
 /// What kept records came to, for the counts.
 pub struct Seen {
@@ -33,15 +35,17 @@ pub struct Seen {
     answers: Answers,
     records: u64,
     /// of these records: some bytes of them overwritten, still sound after it, and that with other tables; all bytes random; unsound by
-    /// a train's asking alone; unsound by counts of trains off alone
+    /// a train's asking alone; unsound by counts of trains off alone; unsound by their lengths alone
     damaged: u64,
     damaged_sound: u64,
     damaged_tables: u64,
     random: u64,
     unsound_by_asks: u64,
     unsound_by_counts: u64,
+    unsound_by_lengths: u64,
     sent: sent::Seen,
     bounds: bounds::Seen,
+    pub lengths: lengths::Seen,
 }
 
 /// A kept record and what the second program has beside it. The tables change at a start and at no call, so they are laid out once.
@@ -115,8 +119,10 @@ impl Seen {
             random: 0,
             unsound_by_asks: 0,
             unsound_by_counts: 0,
+            unsound_by_lengths: 0,
             sent: sent::Seen::new(seed),
             bounds: bounds::Seen::new(seed),
+            lengths: lengths::Seen::new(seed),
         }
     }
 
@@ -232,7 +238,8 @@ impl Seen {
         self.call(&what, kept, call, number, &after);
         self.records += 1;
         self.unsound_by_asks += u64::from(!is_sound && sound_but_for_asks(record));
-        self.unsound_by_counts += u64::from(!is_sound && sound_but_for_counts(record));
+        self.unsound_by_counts += u64::from(!is_sound && sound_but_for(record, |train| train.count = 0));
+        self.unsound_by_lengths += u64::from(!is_sound && sound_but_for(record, |train| train.length = 0));
         is_sound
     }
 
@@ -249,9 +256,11 @@ impl Seen {
         counted("kept: records of random bytes", self.random, RANDOM);
         counted("kept: unsound by asks", self.unsound_by_asks, UNSOUND_BY_ASKS);
         counted("kept: unsound by counts of trains off", self.unsound_by_counts, UNSOUND_BY_COUNTS);
+        counted("kept: unsound by lengths of trains off", self.unsound_by_lengths, UNSOUND_BY_LENGTHS);
         self.sent.print();
         counted("sent: sound records with bytes of the tables overwritten, written and loaded", self.damaged_tables, 1);
         self.bounds.print();
+        self.lengths.print();
     }
 }
 
@@ -272,9 +281,9 @@ fn sound_but_for_asks(record: &Record) -> bool {
     record.trains.iter().any(|train| train.asks > 1) && (with(0) || with(1))
 }
 
-/// A record that would be sound if its trains off had no counts.
-fn sound_but_for_counts(record: &Record) -> bool {
+/// A record that would be sound if its trains off were without something.
+fn sound_but_for(record: &Record, without_it: fn(&mut RawTrain)) -> bool {
     let mut without = *record;
-    without.trains.iter_mut().filter(|train| !train.is_on()).for_each(|train| train.count = 0);
+    without.trains.iter_mut().filter(|train| !train.is_on()).for_each(without_it);
     without != *record && sound(&without)
 }

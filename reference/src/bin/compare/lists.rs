@@ -11,7 +11,7 @@ const CALLS: u64 = 2_000_000;
 const SENT_EACH: usize = 100;
 
 /// The answers that a list can have: 1 to 10 are load's, and 11 never comes.
-const ANSWERS: [usize; 11] = [0, 12, 13, 14, 15, 16, 17, 18, 19, 20, 21];
+const ANSWERS: [usize; 12] = [0, 12, 13, 14, 15, 16, 17, 18, 19, 20, 21, 23];
 
 /// Whether a speed is the one meant, by the limit of the train's segment.
 type IsAt = fn(u16, u16) -> bool;
@@ -73,7 +73,7 @@ impl Seen {
         self.calls += 1;
         self.answers[usize::from(number)] += 1;
         match (call, number) {
-            (Owned::Enter(_, route, speed), 0 | 19) => {
+            (Owned::Enter(_, route, speed, _), 0 | 19) => {
                 let first = before.tables.route(*route as u8).numbers[0];
                 note_speed(&mut self.entries, *speed, before.tables.segment(first).limit);
             }
@@ -107,6 +107,7 @@ impl Seen {
 
     fn print(&self) {
         println!("lists: {} of {} calls; answer and state after each call compared, demand 3 checked", self.lists, self.calls);
+        println!("lists: of these and of all lists below, the wishes after each call and the file at the end are as they were handed in");
         for number in ANSWERS {
             counted(format_args!("lists: answer {number}"), self.answers[number], 1);
         }
@@ -165,11 +166,12 @@ impl List {
 
     /// The next call: the core has it on the record that it handed back last, and on the one that it keeps. "The built calls give the
     /// same answers, and the record handed back holds the same trains on, routes, step due, speeds and allocations": here the whole
-    /// state; then demand 3.
+    /// state; then demand 3. "Files and wishes are only read."
     pub fn call(&mut self, owned: Owned, kept: &mut kept::Seen) -> u8 {
-        let (list, call) = (self.which, self.calls.len() + 1);
+        let (list, call, lent) = (self.which, self.calls.len() + 1, owned.clone());
         let number = self.area.call(&owned.call());
-        self.record = self.area.record();
+        let before = std::mem::replace(&mut self.record, self.area.record());
+        kept.lengths.note(&owned.call(), number, &before, &self.record);
         let (mut answer, mut state) = ([99], self.states[self.calls.len()]);
         let ran = rbu::bytes::run_record(&self.file, &items_of(&owned.call()), &mut answer, &mut state);
         same(self.seed, format_args!("list {list}, call {call}, its answer"), (ran, answer[0]), (1, number));
@@ -179,6 +181,7 @@ impl List {
         if call.is_multiple_of(SENT_EACH) {
             kept.written_back(what, &self.kept, &self.file, &self.record);
         }
+        same(self.seed, format_args!("list {list}, call {call}, its numbers and wishes after it"), &owned, &lent);
         let core = record_of(self.area.tables(), &state);
         if let Err(broken) = self.demand.tell(&owned.call(), answer[0], &core) {
             fail(format_args!("list {list}, call {call}: demand 3 is broken: {broken} (seed {})", self.seed));
@@ -205,6 +208,7 @@ impl List {
         same(self.seed, "what the buffer has beyond the answers", &answers[ran..], &[99; 3][..]);
         same_bytes(self.seed, "the state after a list", &state[..STATE_SIZE], &state_of(&self.record));
         same(self.seed, "what the buffer has beyond the state", &state[STATE_SIZE..], &[99; 5][..]);
+        same_bytes(self.seed, "the file after a list", &self.file, &file_of(self.area.tables()));
         self.kept.same_report(self.seed, "the record after a list", self.area.report());
     }
 

@@ -1,6 +1,7 @@
 //! The core against the second program: braking, Area A's listing, files, lists of calls, records, the file sent back out of them,
-//! grants at merges, and records and lists of a faster line; each call by the functions over bytes and on a record that is kept. Seeded
-//! and repeatable; it prints counts, and ends with status 1 at the first difference and at a count that is too low.
+//! grants at merges, records and lists of a faster line, and of trains over many segments; each call by the functions over bytes and on a
+//! record that is kept. Seeded and repeatable; it prints counts, and ends with status 1 at the first difference and at a count that is too
+//! low.
 //!
 //!     compare             the whole comparison
 //!     compare SEED        the same with another seed
@@ -9,6 +10,7 @@ mod faster;
 mod files;
 mod grants;
 mod kept;
+mod lengths;
 mod lists;
 mod records;
 mod sent;
@@ -42,8 +44,8 @@ fn same_bytes(seed: u64, what: impl Display, core: &[u8], second: &[u8]) {
     }
 }
 
-/// How often each answer was given, by its number, 0 to 22.
-type Answers = [u64; 23];
+/// How often each answer was given, by its number, 0 to 23.
+type Answers = [u64; 24];
 
 /// Prints a count; one below the least ends the comparison.
 fn counted(what: impl Display, count: impl Into<u64>, least: u64) {
@@ -112,6 +114,7 @@ fn main() {
     records::compare(seed, &mut kept);
     grants::compare(seed, &mut kept);
     faster::compare(seed, &mut kept);
+    lengths::compare(seed, &mut kept);
     kept.print();
     println!("compare: no difference");
 }

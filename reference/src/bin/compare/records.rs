@@ -13,9 +13,10 @@ const RECORDS: u32 = 200_000;
 const SENT_EACH: u32 = 2;
 const SOUND: u64 = 20_000;
 const UNSOUND: u64 = 20_000;
+const EACH_EDGE: u64 = 50;
 
 /// The answers of calls: 1 to 10 are load's.
-const ANSWERS: [usize; 12] = [0, 11, 12, 13, 14, 15, 16, 17, 18, 19, 20, 21];
+const ANSWERS: [usize; 13] = [0, 11, 12, 13, 14, 15, 16, 17, 18, 19, 20, 21, 23];
 
 /// What records are made of. Edges stand apart.
 const KINDS: [&str; 4] = ["made sound", "reached by a run and spoilt", "with a broken file", "of random bytes"];
@@ -106,7 +107,7 @@ impl Seen {
         }
         for (edge, count) in EDGES.iter().zip(self.edges) {
             let side = if edge.sound { "sound" } else { "unsound" };
-            counted(format_args!("records: edge, {} ({side})", edge.name), count, 1);
+            counted(format_args!("records: edge, {} ({side})", edge.name), count, EACH_EDGE);
         }
         for number in ANSWERS {
             counted(format_args!("records: answer {number}"), self.answers[number], 1);
@@ -129,6 +130,7 @@ pub fn both_ways(seed: u64, what: &str, file: &[u8], record: &Record, call: &Cal
     same(seed, format_args!("a call on a record ({what})"), (ran, answer[0]), (1, number));
     same_bytes(seed, format_args!("the state after a call on a record ({what})"), &state, &state_of(&after));
     kept.record(format_args!("a record ({what})"), record, call);
+    kept.lengths.note(call, number, record, &after);
     (is_sound, number, after)
 }
 
@@ -183,7 +185,7 @@ fn of_random_bytes(random: &mut Random, mut file: Vec<u8>) -> Made {
 fn spoil(random: &mut Random, record: &mut Record) {
     let t = random.within(0, u64::from(TRAINS) - 1) as usize;
     let train = &mut record.trains[t];
-    match random.draw() % 13 {
+    match random.draw() % 15 {
         0 => train.route = random.edgy(0, u64::from(ROUTES) + 1) as u8,
         1 => train.place = random.edgy(0, u64::from(ROUTE_SEGMENTS) + 1) as u8,
         2 => train.position = random.edgy(0, LONGEST.into()) as u32,
@@ -195,6 +197,8 @@ fn spoil(random: &mut Random, record: &mut Record) {
         9 => *train = RawTrain::OFF,
         10 => train.asks = random.edgy(2, 255) as u8,
         11 => train.count = random::count(random),
+        12 => train.length = random.edgy(0, u64::from(LONGEST_TRAIN) + 1) as u16,
+        13 => train.length = random::wrong_length(random),
         _ => train.position = u32::MAX,
     }
 }
