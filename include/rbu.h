@@ -49,7 +49,7 @@ extern "C" {
 // A train's length, in decimetres, at the most.
 #define RBU_LONGEST_TRAIN 20000
 
-// The answers: done, what load finds of a file (1 to 10), the refusals of calls (11 to 21) and of a write (11 and 22), and 23, which is a refusal of enter.
+// The answers: done, what load finds of a file (1 to 10), the refusals of calls (11 to 21, and 23 of enter) and of a write (11 and 22).
 enum rbu_answer {
     RBU_ANSWER_DONE = 0,
     RBU_ANSWER_SIZE = 1,

@@ -188,7 +188,7 @@ fn along_the_line() {
     }
 }
 
-/// "a train at least as long as its route frees nothing": it has all of it until it leaves.
+/// A train at least as long as its route frees nothing: it has all of it until it leaves.
 #[test]
 fn longer_than_its_route() {
     for length in [11_000, 11_001, 20_000] {
@@ -271,10 +271,10 @@ fn an_ore_set_over_the_merge() {
 #[test]
 fn trains_one_behind_the_other() {
     let tables = decode_tables(&line().file());
-    let record = |rear_of_first: u16, allocations: [u8; 5]| {
+    let record = |first_length: u16, allocations: [u8; 5]| {
         let mut record = Record::loaded(tables);
         // train 1's front is at 16,000 and train 2's on segment 2
-        record.trains[0] = RawTrain { route: 1, place: 4, length: rear_of_first, ..RawTrain::OFF };
+        record.trains[0] = RawTrain { route: 1, place: 4, length: first_length, ..RawTrain::OFF };
         record.trains[1] = RawTrain { route: 1, place: 2, position: 10, length: 11, ..RawTrain::OFF };
         record.allocations[..5].copy_from_slice(&allocations);
         sound(&record)

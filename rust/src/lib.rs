@@ -260,7 +260,7 @@ impl Area {
         answer(unsafe { rbu_grant(&mut self.record) }, 0)
     }
 
-    /// The position step: trains run on by their speeds, and what lies behind the rear is freed.
+    /// The position step: trains run on by their speeds, and a segment is freed once the rear is at its end or past it.
     pub fn position(&mut self) -> Result<(), Refusal> {
         // SAFETY: the record is lent by `&mut`.
         answer(unsafe { rbu_position(&mut self.record) }, 0)

@@ -140,14 +140,17 @@ fn a_long_train() {
             freed = Some((number, front.position));
         }
     }
-    assert_eq!(freed, Some((44, 6090)));
+    assert_eq!(freed, Some((44, 6150)));
     assert_eq!((area.leave(1), area.report()), (Ok(()), Ok(Report { allocated: 0, free: 1 })));
-    // a segment under it that is not its own, and a length that no train has
+    // lengths that a train on may have and may not have; a segment under it that is free
     let mut record = *area_a(6).record();
-    record.trains[0].length = 0;
+    for (length, sound) in [(0, false), (1, true), (LONGEST_TRAIN, true), (LONGEST_TRAIN + 1, false)] {
+        record.trains[0].length = length;
+        assert_eq!(Area::of_record(record).is_sound(), sound);
+    }
+    record.trains[0].length = 1;
+    record.allocations[0] = 0;
     assert!(!Area::of_record(record).is_sound());
-    record.trains[0].length = LONGEST_TRAIN;
-    assert!(Area::of_record(record).is_sound());
 }
 
 #[test]

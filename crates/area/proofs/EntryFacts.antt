@@ -10,11 +10,11 @@ use Rattle.lists.specs.Words.{if_then_else_, at}
 use Rattle.lists.specs.Tests.{firstOf}
 use Rattle.lists.proofs.Cases.{by-test}
 use Rattle.lists.proofs.Numbered.{nth-each-in, nth-stored}
+use Rattle.lists.proofs.Refusals.{is-one}
 use Rattle.tables.specs.Bounds.{mostSegments}
 use Rattle.trains.specs.Train.{Journey, off, entered, trainAt, isOn, ownOf}
 use Rattle.trains.specs.EnterLeave.{isExit, isLast, freedBy, entryTests}
 use Rattle.trains.proofs.Calls.{leaver-freed, others-kept}
-use Rattle.trains.proofs.Entry.{within}
 use Rattle.answers.specs.Answers.{numberOf}
 use Rattle.answers.proofs.Answers.{number-of-answer}
 use Rattle.area.specs.declared.Area.{Area}
@@ -50,7 +50,7 @@ pub leave-when :
 unfolding leaveCall
 leave-when a t ok isTrain on =
     number-of-answer (firstOf (leaveTests a t) .number) (firstOf (leaveTests a t) .place)
-    ∙ rw (ok, within 24 t isTrain, on)
+    ∙ rw (ok, is-one 24 t isTrain, on)
     (by-test (isLast (a .tables) (trainAt (a .trains) t) && isExit (a .tables) (ownOf (a .tables) (trainAt (a .trains) t))) (λ e. rw e) (λ e. rw e))
 
 -- THE CLAIM: leave frees all of the train: every segment that was allocated to it is free, and what is allocated to another stays so

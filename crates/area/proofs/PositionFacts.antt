@@ -1,13 +1,13 @@
 -- The record after a position step has the facts that the papers ask for: those of one train and of what it frees, at each number.
 use Prim.Native.Nat.{ℕ, _+_, _≤_}
-use mathlib.Core.Path.{_≡_, refl, sym, ap, _∙_}
+use mathlib.Core.Path.{_≡_, refl, sym, _∙_}
 use mathlib.Core.Bool.{true, false}
 use mathlib.Core.List.{List}
 use native.Mathlib.Omega.{arith}
 use lib.ListN.{length}
 use Rattle.lists.specs.Words.{at, each}
 use Rattle.lists.proofs.Cases.{if-case, by-test, cases, lt-or-le, is-false}
-use Rattle.lists.proofs.Numbered.{nth-each-in, nth-where}
+use Rattle.lists.proofs.Numbered.{nth-each-in}
 use Rattle.tables.specs.declared.Tables.{Tables}
 use Rattle.tables.specs.Bounds.{mostSegments}
 use Rattle.tables.specs.Facts.{Consistent}
@@ -15,9 +15,10 @@ use Rattle.tables.proofs.Consistency.{consistent}
 use Rattle.trains.specs.declared.Train.{Train}
 use Rattle.trains.specs.Due.{positionDue}
 use Rattle.trains.specs.Train.{mostTrains, off, movedTo, trainAt}
-use Rattle.trains.specs.Cycle.{movesOn, movedIn, moved, released, freed}
+use Rattle.trains.specs.Cycle.{movesIn, movesOn, movedIn, moved, released, freed}
 use Rattle.trains.specs.Way.{wayOf}
 use Rattle.trains.specs.FreedFacts.{RearPasses}
+use Rattle.trains.proofs.Laws.{on-numbered}
 use Rattle.trains.proofs.Safety.{Moved}
 use Rattle.trains.proofs.Freed.{Movable, sound-movable, is-moved, released-iff, one-freed, outside-frees-none, long-frees-none}
 use Rattle.trains.proofs.Calls.{left-freed, others-stay}
@@ -53,9 +54,7 @@ module _
   holder-is : (s : ℕ) → 1 ≤ s → s ≤ mostSegments → 1 ≤ at A s → Movable T (trainAt X (at A s))
   holder-is s low high some =
       cases (facts .allocations s low high) (λ z. absurd (omega arith))
-      (λ g.
-      nth-where off X (at A s) _ (λ from to. movable (at A s) from (omega arith) (g .on))
-      (λ none. absurd (omega (arith, g .on, ap (λ (x : Train). x .route) none))))
+      (λ g. let n = on-numbered X numbers (at A s) (g .on) in movable (at A s) (n .0) (n .1) (g .on))
 
   held-after : (s : ℕ) → 1 ≤ s → s ≤ mostSegments → at (each (freed T X) A) s ≡ freed T X s (at A s)
   held-after s low high = nth-each-in 0 0 (freed T X) A s low (omega arith)
@@ -87,6 +86,10 @@ module _
   unfolding movedIn
   rest-of x = by-test (movesOn T x) (λ e. rw e) (λ e. rw e)
 
+  off-rests : (U : Tables) → moved U off ≡ off
+  unfolding movesIn movedIn
+  off-rests U = refl
+
   way-of : (x y : Train) → Moved T K x y → wayOf T y ≡ wayOf T x + x .speed
   way-of x y m = rw (m .route) (m .way)
 
@@ -112,5 +115,12 @@ module _
         way =
             λ t low high on.
             rw (train-after t low high) (way-of (trainAt X t) (moved T (trainAt X t)) (is-moved T K (trainAt X t) (movable t low high on)));
+        inside =
+            λ t low high on.
+            rw (train-after t low high) (is-moved T K (trainAt X t) (movable t low high on) .inside);
         rest = λ t low high. rw (train-after t low high) (rest-of (trainAt X t));
+        off =
+            λ t low high z.
+            let e = facts .offs t low high z in
+            rw (train-after t low high, e) (off-rests T);
       }

@@ -1,6 +1,6 @@
 -- The test of a sound record decides the facts that it stands for.
 use Prim.Native.Nat.{ℕ, _≤_, _<_}
-use mathlib.Core.Path.{_≡_, ap}
+use mathlib.Core.Path.{_≡_}
 use mathlib.Core.Logic.{inl, inr, _↔_}
 use mathlib.Core.Bool.{Bool, true}
 use native.Mathlib.Omega.{arith}
@@ -9,16 +9,16 @@ use borrow.Author.Tests.{leb-true, le-leb, eq-eqb}
 use Rattle.lists.specs.Words.{at}
 use Rattle.lists.proofs.Cases.{and-iff, cases, lt-or-le, eq-or-ne}
 use Rattle.lists.proofs.Loops.{every-at, every-all}
-use Rattle.lists.proofs.Numbered.{nth-zero, nth-out, nth-where}
+use Rattle.lists.proofs.Numbered.{nth-zero, nth-out}
 use Rattle.tables.specs.Bounds.{mostSegments}
 use Rattle.tables.specs.Facts.{Meets}
 use Rattle.tables.proofs.Consistency.{consistent, meets-iff}
 use Rattle.trains.specs.Due.{positionDue}
-use Rattle.trains.specs.declared.Train.{Train}
 use Rattle.trains.specs.Train.{mostTrains, off, trainAt, ownOf, ownLength}
 use Rattle.trains.specs.Spot.{spotOf}
 use Rattle.trains.specs.Cycle.{low, upperEnd}
 use Rattle.trains.specs.Sound.{trainSound, allocationSound}
+use Rattle.trains.proofs.Laws.{on-numbered}
 use Rattle.trains.proofs.Safety.{own-is, low-high}
 use Rattle.trains.specs.SoundFacts.{SoundTrain}
 use Rattle.trains.proofs.Soundness.{train-iff, off-iff, allocation-iff}
@@ -49,9 +49,7 @@ module _ (a : Area) (long : length (a .trains) ≡ mostTrains) where
   inside :
       ((t : ℕ) → 1 ≤ t → t ≤ mostTrains → 1 ≤ trainAt (a .trains) t .route → SoundTrain (a .tables) (a .allocations) (a .due) t (trainAt (a .trains) t))
       → (h : ℕ) → 1 ≤ trainAt (a .trains) h .route → trainAt (a .trains) h .position < ownLength (a .tables) (trainAt (a .trains) h)
-  inside ons h on =
-      nth-where off (a .trains) h _ (λ low high. ons h low (omega arith) on .position)
-      (λ none. absurd (omega (arith, on, ap (λ (x : Train). x .route) none)))
+  inside ons h on = let n = on-numbered (a .trains) long h on in ons h (n .0) (n .1) on .position
 
   sound-facts : sound a ≡ true → SoundArea a
   unfolding sound

@@ -1,12 +1,12 @@
 -- What a position step does, as plain facts in the papers' words (document 01, "The calls"; document 02, R-4): the facts that an inspector
 -- reads.
-use Prim.Native.Nat.{ℕ, _+_, _≤_}
+use Prim.Native.Nat.{ℕ, _+_, _≤_, _<_}
 use mathlib.Core.Path.{_≡_}
 use Rattle.lists.specs.Words.{at}
 use Rattle.tables.specs.Bounds.{mostSegments}
 use Rattle.tables.specs.Tables.{countOf}
 use Rattle.trains.specs.declared.Train.{Train}
-use Rattle.trains.specs.Train.{mostTrains, movedTo, trainAt}
+use Rattle.trains.specs.Train.{mostTrains, movedTo, trainAt, ownLength}
 use Rattle.trains.specs.Way.{startAfter, wayOf}
 use Rattle.trains.specs.FreedFacts.{RearPasses}
 use Rattle.area.specs.declared.Area.{Area}
@@ -45,6 +45,9 @@ module _ (a b : Area) where
         (s : ℕ) → 1 ≤ s → s ≤ mostSegments → 1 ≤ holder s
         → startAfter (a .tables) (train (holder s) .route) (countOf (a .tables .routebytes) (train (holder s) .route)) ≤ train (holder s) .length
         → holderAfter s ≡ holder s
-    -- a train on runs on by its speed along its route, and nothing else of it changes
+    -- a train on runs on by its speed along its route and is before its segment's end, and nothing else of it changes
     pub way : (t : ℕ) → 1 ≤ t → t ≤ mostTrains → 1 ≤ train t .route → wayOf (a .tables) (trainAfter t) ≡ wayOf (a .tables) (train t) + train t .speed
+    pub inside : (t : ℕ) → 1 ≤ t → t ≤ mostTrains → 1 ≤ train t .route → trainAfter t .position < ownLength (a .tables) (trainAfter t)
     pub rest : (t : ℕ) → 1 ≤ t → t ≤ mostTrains → trainAfter t ≡ movedTo (train t) (trainAfter t .place) (trainAfter t .position)
+    -- a train off stays as it is
+    pub off : (t : ℕ) → 1 ≤ t → t ≤ mostTrains → train t .route ≡ 0 → trainAfter t ≡ train t

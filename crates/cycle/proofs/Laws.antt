@@ -20,7 +20,7 @@ use Rattle.trains.specs.Train.{mostTrains, off, withSpeed, withAsking, trainAt,
 use Rattle.trains.specs.Cycle.{newSpeed, spedAt, sped, wants, requestedAt, requested, movesIn, movedIn, moved, released, freed}
 use Rattle.trains.proofs.Freed.{Movable, is-moved, left-is}
 use Rattle.standing.specs.Spots.{noSpot, standsOf, spotsOf, spotAt}
-use Rattle.standing.proofs.Laws.{stands-same}
+use Rattle.standing.proofs.Laws.{stands-same, spot-at}
 use Rattle.steps.specs.Left.{leftIn}
 
 -- a train off does not move, whatever the length
@@ -86,12 +86,10 @@ module _
   left-at : (t : ℕ) → 1 ≤ t → t ≤ mostTrains → at lefts t ≡ leftIn (T .routebytes) (T .lengths) (standsOf T (at A) t (trainAt trains t) .rear) (moved T (trainAt trains t))
   left-at t low high =
       let size : length after ≡ mostTrains = ap length f ∙ (length-each _ trains ∙ long) in
-      let spot : spotAt spots t ≡ standsOf T (at A) t (trainAt trains t) =
-      ap (λ (l : List Spot). spotAt l t) e ∙ nth-each-in off noSpot (standsOf T (at A)) trains t low (omega arith) in
       let train : trainAt after t ≡ moved T (trainAt trains t) =
       ap (λ (l : List Train). trainAt l t) f ∙ nth-each-in off off (λ (k : ℕ). moved T) trains t low (omega arith) in
       nth-each-in off 0 (λ (k : ℕ) (x : Train). leftIn (T .routebytes) (T .lengths) (spotAt spots k .rear) x) after t low (omega arith)
-      ∙ rw (spot, train)
+      ∙ rw (spot-at T A trains long e t low high, train)
 
   -- the train that holds a segment frees it where it is the one that its rear leaves
   freed-at : (s h : ℕ) → 1 ≤ s → eqb (at lefts h) s ≡ released T (trainAt trains h) s

@@ -1,8 +1,9 @@
 -- Laws of a list of tests: none of which holds, of which the first that holds is known by its number, and taken one at a time as
 -- the code takes them.
-use Prim.Native.Nat.{ℕ, _≤_}
+use Prim.Native.Nat.{ℕ, _≤_, _<_}
 use mathlib.Core.Path.{_≡_, refl, sym, _∙_}
-use mathlib.Core.Bool.{Bool, true, false, not, _&&_, _||_, and-eq-true-iff}
+use mathlib.Core.Logic.{_⊎_}
+use mathlib.Core.Bool.{Bool, true, false, not, _&&_, _||_, and-false, and-eq-true-iff}
 use mathlib.Core.List.{List, [], _∷_}
 use native.Mathlib.Omega.{arith}
 use lib.Dec.{leb, ltb, eqb}
@@ -100,6 +101,13 @@ module _ (top r : ℕ) where
 
   pub inside : (eqb r 0 || ltb top r) ≡ false → (1 ≤ r) × (r ≤ top)
   inside e = within (sym outside ∙ e)
+
+  -- the test by the fact
+  pub is-one : (1 ≤ r) × (r ≤ top) → (leb 1 r && leb r top) ≡ true
+  is-one h = rw (le-leb 1 r (h .0), le-leb r top (h .1))
+
+  pub is-none : (r < 1) ⊎ (top < r) → (leb 1 r && leb r top) ≡ false
+  is-none h = cases h (λ l. rw (lt-leb 1 r l)) (λ l. rw (lt-leb r top l) (and-false (leb 1 r)))
 
 -- some tests are left to decide what the whole is; `by` says what it comes to by the test that decides
 pub record Left {A : Type 0} (by : Test → A) (whole : A) (tests : List Test) : Type 0 where

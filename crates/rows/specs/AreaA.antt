@@ -72,11 +72,11 @@ moving place position speed length first third =
       due = positionDue;
     }
 
--- what an enter on route r of Area A names
+-- what an enter on route r names
 abbrev pub on : (r length : ℕ) → Journey
 on r length = record { route = r; length = length }
 
--- a line of five segments of 1000 decimetres each, all on route 1
+-- a line of five segments of 1000 decimetres each, all on route 1; links and flags play no part in what is asked of a train there
 unfoldable pub line : Tables
 line =
     record {
@@ -87,9 +87,9 @@ line =
       margin = 100;
       lengths = replicate 5 1000;
       limits = replicate 5 100;
-      next = 2 ∷ 0 ∷ 3 ∷ 0 ∷ 4 ∷ 0 ∷ 5 ∷ 0 ∷ [];
-      previous = 0 ∷ 0 ∷ 1 ∷ 0 ∷ 2 ∷ 0 ∷ 3 ∷ 0 ∷ 4 ∷ [];
-      flags = 1 ∷ 0 ∷ 0 ∷ 0 ∷ 2 ∷ [];
+      next = [];
+      previous = [];
+      flags = [];
       routebytes = 5 ∷ 1 ∷ 2 ∷ 3 ∷ 4 ∷ 5 ∷ [];
     }
 

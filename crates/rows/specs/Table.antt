@@ -136,8 +136,8 @@ table =
     ∷ Both (Moves (moving 1 0 0 20000 1 0) 0) (Moves (moving 1 0 0 20001 1 0) 11)
     -- "all of these segments are allocated to that train": a segment under it is free; one behind its rear is still its own
     ∷ Both (Moves (moving 2 5999 0 6000 0 1) 11) (Moves (moving 2 6000 0 6000 1 1) 11)
-    -- under a train 2,500 long, 500 into segment 4, are 2, 3 and 4: its rear is at the end of segment 1. All three, not the one before, and
-    -- none of them free
+    -- under a train 2,500 long, 500 into segment 4, are 2, 3 and 4: its rear is at the end of segment 1. All three are its own, the one before
+    -- is not, and neither the rear's nor the middle one may be free
     ∷ Both (Stands (fourth 500 2500) (0 ∷ 1 ∷ 1 ∷ 1 ∷ 0 ∷ []) true true) (Stands (fourth 500 2500) (1 ∷ 1 ∷ 1 ∷ 1 ∷ 0 ∷ []) true false)
     ∷ Both (Stands (fourth 500 2500) (0 ∷ 0 ∷ 1 ∷ 1 ∷ 0 ∷ []) false true) (Stands (fourth 500 2500) (0 ∷ 1 ∷ 0 ∷ 1 ∷ 0 ∷ []) false true)
     -- a decimetre longer, and segment 1 is under it too; as long as its way and longer, 1 to 4 are

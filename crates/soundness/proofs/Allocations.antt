@@ -9,25 +9,25 @@ use native.Mathlib.Omega.{arith}
 use lib.Dec.{leb, eqb}
 use lib.ListN.{length}
 use borrow.Author.Tests.{ltb-true, eqb-true, lt-ltb, le-leb, eq-eqb, ne-eqb}
-use Rattle.lists.specs.Words.{if_then_else_, at, every, some}
+use Rattle.lists.specs.Words.{at, every, some}
 use Rattle.lists.proofs.Cases.{by-test, cases, eq-or-ne, not-both, is-false, and-iff, either, either-yes}
 use Rattle.lists.proofs.Loops.{every-at, every-same}
-use Rattle.lists.proofs.Numbered.{nth-where}
 use Rattle.lists.proofs.Some.{some-found, found-some}
 use Rattle.tables.specs.declared.Tables.{Tables}
 use Rattle.tables.specs.Bounds.{mostSegments}
 use Rattle.tables.specs.Facts.{Consistent}
 use Rattle.trains.specs.declared.Train.{Train}
 use Rattle.trains.specs.declared.Spot.{Spot}
-use Rattle.trains.specs.Train.{mostTrains, off, trainAt, isOn, nextOf, holdsNext, occupied, occupiedIn, ahead}
+use Rattle.trains.specs.Train.{mostTrains, trainAt, isOn, nextOf, holdsNext, occupied, occupiedIn, ahead}
 use Rattle.trains.specs.Sound.{trainSound, allocationSound}
 use Rattle.trains.specs.SoundFacts.{SoundTrain}
+use Rattle.trains.proofs.Laws.{on-numbered}
 use Rattle.trains.proofs.Segments.{occupied-iff, next-ahead, ahead-next}
 use Rattle.trains.proofs.Safety.{OnRoute, under-is, next-is, held-next}
 use Rattle.trains.proofs.Soundness.{train-iff}
 use Rattle.standing.specs.Spots.{spotsOf, spotAt}
+use Rattle.standing.proofs.Laws.{spot-at}
 use Rattle.soundness.specs.Covered.{covers, leftOver}
-use Rattle.soundness.proofs.Laws.{spot-at}
 
 module _
     (T : Tables) (K : Consistent T) (A : List ℕ) (due : ℕ) (trains : List Train) {spots : List Spot} (long : length trains ≡ mostTrains)
@@ -75,8 +75,7 @@ module _
       let g : (leb s (T .segments) && isOn x && (occupied T x s || ahead T x s)) ≡ true = rw (ne-eqb t 0 (λ z. omega arith)) at h in
       let f = simp and-iff at g in
       let on = ltb-true 0 (x .route) (f .0 .1) in
-      let high : t ≤ mostTrains =
-      nth-where off trains t (t ≤ mostTrains) (λ low high. omega arith) (λ none. absurd (omega (arith, on, ap (λ (y : Train). y .route) none))) in (
+      let high = on-numbered trains long t on .1 in (
         high,
         rw (f .0 .1) (either-yes (occupied T x s) (holdsNext T (at A) t x && eqb s (nextOf T x))
             (cases (either (occupied T x s) (ahead T x s) (f .1)) (λ u. inl u)

@@ -12,7 +12,7 @@ use borrow.Author.Tests.{lt-ltb}
 use Rattle.lists.proofs.Cases.{if-case}
 use Rattle.lists.specs.Words.{at, every}
 use Rattle.lists.proofs.Loops.{every-same}
-use Rattle.lists.proofs.Numbered.{nth-where, nth-each-in}
+use Rattle.lists.proofs.Numbered.{nth-where}
 use Rattle.braking.specs.Braking.{S}
 use Rattle.braking.proofs.Laws.{S-B}
 use Rattle.tables.specs.declared.Tables.{Tables}
@@ -22,8 +22,8 @@ use Rattle.trains.specs.declared.Spot.{Spot}
 use Rattle.trains.specs.Train.{mostTrains, off, trainAt, isOn, ownLimit}
 use Rattle.trains.specs.Spot.{spotOf}
 use Rattle.trains.specs.Sound.{offSound, placeSound, toRun, brakingSound, askingSound, standsSound, trainSound}
-use Rattle.standing.specs.Spots.{noSpot, standsOf, spotsOf, spotAt}
-use Rattle.standing.proofs.Laws.{stands-same}
+use Rattle.standing.specs.Spots.{spotsOf, spotAt}
+use Rattle.standing.proofs.Laws.{stands-same, spot-at}
 use Rattle.soundness.specs.Stopping.{Stopping}
 use Rattle.trains.proofs.Safety.{in-margin}
 use Rattle.trains.proofs.Soundness.{place-facts}
@@ -42,9 +42,6 @@ limit-stops T ok held t x on h =
 
 -- the list of where trains stand has each train's own spot: what the tests ask holds of it, and they are the tests of the record
 module _ (T : Tables) (A : List ℕ) (trains : List Train) {spots : List Spot} (long : length trains ≡ mostTrains) (e : spots ≡ spotsOf T A trains) where
-  pub spot-at : (t : ℕ) → 1 ≤ t → t ≤ mostTrains → spotAt spots t ≡ standsOf T (at A) t (trainAt trains t)
-  spot-at t low high = ap (λ (l : List Spot). spotAt l t) e ∙ nth-each-in off noSpot (standsOf T (at A)) trains t low (omega arith)
-
   pub stopping : Consistent T → Stopping (T .routes) (T .braking) (T .margin) spots trains
   stopping ok =
       record {
@@ -54,7 +51,7 @@ module _ (T : Tables) (A : List ℕ) (trains : List Train) {spots : List Spot} (
             nth-where off trains t _
             (λ low high on.
             let o : isOn (trainAt trains t) ≡ true = lt-ltb 0 (trainAt trains t .route) on in
-            rw (spot-at t low (omega arith), o) (limit-stops T ok (at A) t (trainAt trains t) on))
+            rw (spot-at T A trains long e t low (omega arith), o) (limit-stops T ok (at A) t (trainAt trains t) on))
             (λ none on. absurd (not-suc-le-zero (rw none at on)));
       }
 
@@ -64,7 +61,7 @@ module _ (T : Tables) (A : List ℕ) (trains : List Train) {spots : List Spot} (
   unfolding standsSound
   test-at due t low high =
       let x = trainAt trains t in
-      ap (λ (p : Spot). standsSound (T .routes) (T .braking) due p x) (spot-at t low high)
+      ap (λ (p : Spot). standsSound (T .routes) (T .braking) due p x) (spot-at T A trains long e t low high)
       ∙ stands-same T (at A) t x (λ (p : Spot). placeSound (T .routes) p x && brakingSound (T .braking) due p x && askingSound due p x) (offSound x)
 
   pub tests-same :

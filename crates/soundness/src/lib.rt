@@ -152,7 +152,7 @@ fn take_train<'a>(routebytes: &'a [u8; 960], left: &'a mut [u8], spot: Spot, x: 
     }
 }
 
-// No early return: the 62 bytes are looked at at one stroke.
+// No early return: the 62 bytes are compared at one stroke.
 fn none_left(left: &[u8; 62]) -> bool
     ensures { λ r. ⌜ r ≡ every mostSegments (λ s. eqb (at (now (left .entry)) s) 0) ⌝ }
 {

@@ -1,5 +1,5 @@
--- What a train's rear leaves at a position step (document 02, R-4), as the step works it out. That this is what is freed is proved in the
--- proofs of `trains`: at most one segment is.
+-- What a train's rear leaves at a position step (document 02, R-4), as the step works it out. That just this is freed is law `left-is`
+-- (trains/Freed): at most one segment is.
 use Prim.Native.Nat.{ℕ}
 use mathlib.Core.Bool.{not, _&&_}
 use mathlib.Core.List.{List}

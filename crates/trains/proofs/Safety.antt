@@ -375,12 +375,15 @@ module _ (T : Tables) (K : Consistent T) where
     move-held past =
         by-test (holdsNext T held t x) (λ e. e) (λ e. absurd (omega (arith, later-stops e, S-above (T .braking) (K .rate) (x .speed))))
 
-    -- y is the train after the step, and held′ says who holds a segment then: what was its own and was not freed, and nothing more. `gone` is
-    -- what is freed: what was under it and no longer is
+    -- what is freed where the train becomes y: what was under it and no longer is
+    abbrev gone : Train → ℕ → Bool
+    gone y s = occupied T x s && not (occupied T y s)
+
+    -- y is the train after the step, and held′ says who holds a segment then: what was its own and was not freed, and nothing more
     module _
         (y : Train) (m : Moved x y) (held′ : ℕ → ℕ)
-        (to : (s : ℕ) → held s ≡ t → (occupied T x s && not (occupied T y s)) ≡ false → held′ s ≡ t)
-        (from : (s : ℕ) → held′ s ≡ t → (held s ≡ t) × ((occupied T x s && not (occupied T y s)) ≡ false)) where
+        (to : (s : ℕ) → held s ≡ t → gone y s ≡ false → held′ s ≡ t)
+        (from : (s : ℕ) → held′ s ≡ t → (held s ≡ t) × (gone y s ≡ false)) where
       -- what is under it afterwards is its own, if that is so of what its front has come upon
       holds-after :
           ((p : ℕ) → x .place < p → p ≤ y .place → held (segmentAt (T .routebytes) (x .route) p) ≡ t) → (s : ℕ) → occupied T y s ≡ true → held′ s ≡ t
@@ -406,8 +409,8 @@ module _ (T : Tables) (K : Consistent T) where
     pub further-ok :
         (held′ : ℕ → ℕ) → x .position + x .speed < ownLength T x
         → let y = movedTo x (x .place) (x .position + x .speed) in
-        ((s : ℕ) → held s ≡ t → (occupied T x s && not (occupied T y s)) ≡ false → held′ s ≡ t)
-        → ((s : ℕ) → held′ s ≡ t → (held s ≡ t) × ((occupied T x s && not (occupied T y s)) ≡ false))
+        ((s : ℕ) → held s ≡ t → gone y s ≡ false → held′ s ≡ t)
+        → ((s : ℕ) → held′ s ≡ t → (held s ≡ t) × (gone y s ≡ false))
         → TrainOk T speedDue held′ t y (way + x .speed) got
     unfolding ownIn nextIn
     further-ok held′ short to from =
@@ -434,8 +437,8 @@ module _ (T : Tables) (K : Consistent T) where
     pub move-ok :
         (held′ : ℕ → ℕ) → ownLength T x ≤ x .position + x .speed
         → let y = movedTo x (x .place + 1) (x .position + x .speed - ownLength T x) in
-        ((s : ℕ) → held s ≡ t → (occupied T x s && not (occupied T y s)) ≡ false → held′ s ≡ t)
-        → ((s : ℕ) → held′ s ≡ t → (held s ≡ t) × ((occupied T x s && not (occupied T y s)) ≡ false))
+        ((s : ℕ) → held s ≡ t → gone y s ≡ false → held′ s ≡ t)
+        → ((s : ℕ) → held′ s ≡ t → (held s ≡ t) × (gone y s ≡ false))
         → TrainOk T speedDue held′ t y (way + x .speed) got
     unfolding ownIn
     move-ok held′ past to from =
