@@ -16,7 +16,7 @@ use Rattle.separation.specs.Calls.{Call}
 use Rattle.separation.specs.Runs.{World, after}
 use Rattle.separation.specs.Where.{OnArea, routeOf, lengthOf, segmentOn, OwnPlace, HasOwn, OnSegment, GrantedNext, positionOf, speedOf, stillToRun, reach}
 
--- T are the tables of the file, w is what a list of calls comes to; t and u are trains, s is a segment
+-- T are the tables of the file, w is what a list of calls comes to; t and u are trains, s is a segment, p a place of the train's route
 pub record Separated (T : Tables) (w : World) : Type 0 where
   -- "no two trains are on one segment"
   pub apart : (t u s : ℕ) → OnSegment T w t s → OnSegment T w u s → t ≡ u
