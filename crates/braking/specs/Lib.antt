@@ -1,2 +1,3 @@
 pub mod Braking
+pub mod KeptSpeed
 pub mod Distance
