@@ -44,6 +44,7 @@ int main(int count, char **arguments) {
     static uint8_t file[RBU_FILE_SIZE];
     uint16_t wishes[RBU_TRAINS], ignored;
     uint8_t allocated, free_segment;
+    uint32_t start, route_count;
     struct rbu_area line, area;
     FILE *input = count == 4 ? fopen(arguments[1], "rb") : NULL;
     if (!input || fread(file, 1, sizeof file, input) != sizeof file) {
@@ -79,6 +80,8 @@ int main(int count, char **arguments) {
     expect("position", rbu_position(&area), RBU_ANSWER_DONE);
     expect("load", rbu_load(file, sizeof file, &ignored), RBU_ANSWER_DONE);
     expect("start", rbu_start(&area, file, sizeof file, &ignored), RBU_ANSWER_DONE);
+    rbu_view(file, sizeof file, 2, &start, &route_count);
+    expect("view", route_count, 2);
     expect("S", rbu_braking_distance(line.tables.braking, RBU_FASTEST), line.tables.braking == 1 ? 2001000 : RBU_FASTEST);
     return failed;
 }

@@ -2,16 +2,17 @@
 //!
 //! A second program, written from document 01, in `demand3` also from the words of demand 3 that it names, in `send` from request R-1 of
 //! document 02, in the grant step and the record from its request R-2, of which the readings in docs/DECISIONS.md were given too, in the
-//! bounds of rules 4 and 6 from its request R-3, of which it names what was given too, and in enter, the position step, the record and
-//! `demand3` from its request R-4, of which it names what was given too; and from nothing else; to be read beside them. Sentences of the
-//! papers stand in quotation marks. Where a paper leaves something open, a comment begins with `reading:`.
+//! bounds of rules 4 and 6 from its request R-3, of which it names what was given too, in enter, the position step, the record and
+//! `demand3` from its request R-4, of which it names what was given too, and in what is held against `braking` from its request R-5; and
+//! from nothing else; to be read beside them. Sentences of the papers stand in quotation marks. Where a paper leaves something open, a
+//! comment begins with `reading:`.
 
 // The modules in the order of document 01, then of document 02.
 
 // the papers' numbers, each named once; the bounds of `gmax`, `d` and lengths with R-3 of document 02
 pub mod numbers;
 
-// Units and braking
+// Units and braking; S in a closed form, where R-5 of document 02 has turns
 pub mod braking;
 
 // the tables, rules 4 to 10 on them, and what is under a train by R-4 of document 02
@@ -49,6 +50,7 @@ pub mod merges;
 pub mod random;
 pub mod script;
 pub mod state;
+pub mod stops;
 
 pub use area::{answer_of, answer_within, call_on, cycle, load, report_on, Area, Call};
 pub use braking::{b_rest, s};
@@ -60,4 +62,6 @@ pub use send::{file_of, send};
 pub use state::{record_of, state_of};
 pub use tables::{Route, Segment, Tables, ENTRY, EXIT};
 pub use view::{route_view, route_view_start};
-pub use write::{area_a, full_area, like_area_a, merging_area, ore_line, put_checks, shortest, Description, AREA_A_CYCLE, AREA_A_ENTRIES};
+pub use write::{
+    area_a, full_area, like_area_a, like_full_area, merging_area, ore_line, put_checks, shortest, Description, AREA_A_CYCLE, AREA_A_ENTRIES,
+};

@@ -105,7 +105,16 @@ pub fn shortest(gmax: u16, d: u32) -> u32 {
 
 /// Area A's shape with another `gmax`, `b` and `d`: every limit is `gmax`, and every length the least.
 pub fn like_area_a(gmax: u16, b: u16, d: u32) -> Description {
-    let mut area = Description { gmax, b, d, ..area_a() };
+    like(area_a(), gmax, b, d)
+}
+
+/// The same of the full area.
+pub fn like_full_area(gmax: u16, b: u16, d: u32) -> Description {
+    like(full_area(), gmax, b, d)
+}
+
+fn like(shape: Description, gmax: u16, b: u16, d: u32) -> Description {
+    let mut area = Description { gmax, b, d, ..shape };
     for segment in &mut area.segments {
         (segment.length, segment.limit) = (shortest(gmax, d), gmax);
     }

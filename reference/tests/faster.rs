@@ -5,6 +5,7 @@ use reference::bounds::{AT_BOUNDS, GREATEST};
 use reference::breaks::{BREAKS, PLACES};
 use reference::edges::{record_at, EDGES};
 use reference::random::{self, area, faster, merges, Owned, Random};
+use reference::stops::{about_near, all_trains, at_ends, distances, record_with, RATES};
 use reference::*;
 
 /// Load's answers with the bounds in force and with those of document 01.
@@ -198,6 +199,26 @@ fn records_with_the_greatest_numbers() {
             let (before, answer, after) = one.records(number);
             assert_eq!(sound(&before), answer == 0, "{}", one.name);
             assert_eq!(call_on(&before, &one.call()), (answer, after), "{}", one.name);
+        }
+    }
+}
+
+/// The stops of the comparison are sound where they say so.
+#[test]
+fn stops_at_the_bounds() {
+    let mut random = Random::new(1);
+    for b in RATES {
+        for d in distances(b) {
+            let tables = *load(&like_area_a(TOP_SPEED, b, d).file()).unwrap().tables();
+            for (stand, _) in at_ends(b).chain(about_near(b, d)) {
+                assert_eq!(sound(&record_with(&tables, 24, &stand)), stand.is_sound(), "d = {d}, {stand:?}");
+            }
+            let tables = *load(&like_full_area(TOP_SPEED, b, d).file()).unwrap().tables();
+            for is_sound in [true, false].repeat(20) {
+                let (record, stands) = all_trains(&mut random, &tables, is_sound);
+                assert_eq!(sound(&record), is_sound, "d = {d}, {stands:?}");
+                assert_eq!(stands.iter().filter(|(stand, _)| !stand.is_sound()).count(), usize::from(!is_sound));
+            }
         }
     }
 }

@@ -1,4 +1,4 @@
-//! The certain values, Area A's listing, the edges, the route view.
+//! The certain values, the sums of braking, Area A's listing, the edges, the route view.
 
 use reference::*;
 
@@ -53,6 +53,34 @@ fn s_is_the_sum_of_its_terms() {
     assert_eq!(s(1, u32::MAX), u64::from(u32::MAX) * (u64::from(u32::MAX) + 1) / 2);
     assert_eq!(s(u32::MAX, u32::MAX), u64::from(u32::MAX));
     assert_eq!((s(0, 0), s(0, 1)), (0, u64::MAX));
+}
+
+/// R-5 of document 02: "keep the falling speed as a running value and lower it by `b` each turn, to 0 at the last. After each turn the sum
+/// so far and S of the kept speed together make S(v)."
+// reading: a turn adds the kept speed and then lowers it, and there is one for each positive term, so that S(0) has none.
+#[test]
+fn the_turns_of_a_braking_sum() {
+    for b in 1..=u32::from(TOP_SPEED) {
+        for v in 0..=u32::from(TOP_SPEED) {
+            let whole = s(b, v);
+            let (mut sum, mut kept) = (0, v);
+            // "v − i × b afresh for each term"
+            let mut afresh = i64::from(v);
+            for turn in 1.. {
+                assert_eq!(kept == 0, afresh <= 0, "b = {b}, v = {v}, before turn {turn}");
+                if kept == 0 {
+                    break;
+                }
+                let is_last = kept <= b;
+                sum += u64::from(kept);
+                kept = if is_last { 0 } else { kept - b };
+                afresh = i64::from(v) - i64::from(turn) * i64::from(b);
+                assert_eq!(i64::from(kept), afresh.max(0), "b = {b}, v = {v}, after turn {turn}");
+                assert_eq!(sum + s(b, kept), whole, "b = {b}, v = {v}, after turn {turn}");
+            }
+            assert_eq!((kept, sum), (0, whole), "b = {b}, v = {v}, at the end");
+        }
+    }
 }
 
 /// "The program reads Area A's file .., loads it, enters train 1 on route 1 at 250 and train 2

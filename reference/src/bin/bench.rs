@@ -1,12 +1,15 @@
 //! The core and the second program on the same inputs, in one process: microseconds each and the ratio core / second program. Then the
 //! core alone: a call on a record that is kept, and the same call inside a run. It ends with status 1 where a load, a write or a call of
 //! the core takes longer than the second program's, or a call on a kept record too much longer than inside a run. The rows of a faster
-//! line stand apart and do not decide the status: there the core sums up to 2000 terms of S one by one, where the second program has its closed form.
+//! line stand apart and do not decide the status: there the core sums up to 2000 terms of S one by one, where the second program has its
+//! closed form. What these sums take is told for the core alone, as a number of sums: a load, and a call with all trains far, that comes to
+//! more than one ends with status 1 too.
 //! Both programs test the whole record at every call and at every write. In the replays and the writes the buffers, for answers and state
 //! or for the file, are not cleared between runs; for a single call the state, or the kept record, is copied anew before each run, with
 //! and without the call.
 use reference::kept::{call_kept, kept_of};
 use reference::script::{items_of, script_of};
+use reference::stops::RATES;
 use reference::*;
 use std::hint::black_box;
 use std::time::Instant;
@@ -15,6 +18,9 @@ use std::time::Instant;
 const MOST_OF_A_RUN: f64 = 1.3;
 /// What a load, a write and a call of the core may take, as a part of the second program's.
 const MOST_OF_THE_SECOND: f64 = 1.0;
+/// What a load and a call with all trains far may come to, in braking sums: each tests rule 5 once, and of a far train `d` answers for the
+/// braking distance.
+const MOST_SUMS: f64 = 1.5;
 
 /// The mean of so many turns, in microseconds.
 fn round<R>(turns: u32, run: &mut impl FnMut() -> R) -> f64 {
@@ -195,27 +201,66 @@ fn faster_area(b: u16) -> Description {
     like_area_a(TOP_SPEED, b, s(1, TOP_SPEED.into()) as u32 + u32::from(TOP_SPEED))
 }
 
-/// Trains 1 and 2 where they just are near, at the top speed and without their next segment: their braking distances are needed.
-fn at_top_speed(file: &[u8], due: u8) -> Area {
+/// The same of the full area.
+fn faster_full_area(b: u16) -> Description {
+    like_full_area(TOP_SPEED, b, faster_area(b).d)
+}
+
+/// The segments that trains 1 and 2 are on in Area A's shape, and all trains in the full area, where each has a free segment before it.
+fn fronts_in_area_a() -> Vec<u8> {
+    vec![1, 2]
+}
+
+fn fronts_in_full_area() -> Vec<u8> {
+    (1..=TRAINS).map(|number| 2 * number).collect()
+}
+
+/// Where trains at the top speed without their next segment are.
+#[derive(Clone, Copy, PartialEq, Eq)]
+enum Stand {
+    /// they just are near: their braking distances are needed
+    Near,
+    /// one decimetre before that
+    Far,
+}
+
+impl Stand {
+    fn name(self) -> &'static str {
+        match self {
+            Stand::Near => "near",
+            Stand::Far => "far",
+        }
+    }
+}
+
+fn at_top_speed(file: &[u8], due: u8, fronts: &[u8], stand: Stand) -> Area {
     let mut record = Record { due, ..load(file).expect("the area is accepted").record() };
-    for number in 1..=2 {
-        let position = record.tables.segment(number).length - record.tables.d;
-        let asks = u8::from(due == GRANT);
-        let train = RawTrain { route: number, place: 1, position, speed: TOP_SPEED, asks, length: 1, ..RawTrain::OFF };
+    for (number, &front) in (1..).zip(fronts) {
+        let route = front.min(record.tables.r);
+        let position = record.tables.segment(front).length - record.tables.d - u32::from(stand == Stand::Far);
+        let asks = u8::from(due == GRANT && stand == Stand::Near);
+        let train = RawTrain { route, place: front - route + 1, position, speed: TOP_SPEED, asks, length: 1, ..RawTrain::OFF };
         record.trains[usize::from(number) - 1] = train;
-        record.allocations[usize::from(number) - 1] = number;
+        record.allocations[usize::from(front) - 1] = number;
     }
     Area::from_record(&record).expect("the record is sound")
 }
 
-/// The calls on that area and their mean: each step with both trains there, leave and enter with train 1 there alone.
+/// The steps of a cycle with the top speed for all wishes, each with its name and the step due.
+fn fast_steps() -> impl Iterator<Item = (u8, &'static str, Call<'static>)> {
+    let steps = ["speed", "request", "grant", "position"].into_iter().zip(cycle(&[TOP_SPEED; WISHES]));
+    (SPEED..).zip(steps).map(|(due, (step, call))| (due, step, call))
+}
+
+/// The calls on the area of a faster line and their mean: each step with both trains near, leave and enter with train 1 there alone.
 fn faster_calls(name: &str, description: &Description) -> Vec<Times> {
     let file = description.file();
     let mut times = vec![];
-    for (due, (step, call)) in (SPEED..).zip(["speed", "request", "grant", "position"].into_iter().zip(&cycle(&[TOP_SPEED; WISHES]))) {
-        times.push(one_call(format!("{step}, {name}"), &file, &at_top_speed(&file, due), call));
+    let stands = |due: u8| at_top_speed(&file, due, &fronts_in_area_a(), Stand::Near);
+    for (due, step, call) in fast_steps() {
+        times.push(one_call(format!("{step}, {name}"), &file, &stands(due), &call));
     }
-    times.extend(leave_and_enter(name, &file, at_the_last(&at_top_speed(&file, SPEED), 2), 2, 2, 1));
+    times.extend(leave_and_enter(name, &file, at_the_last(&stands(SPEED), 2), 2, 2, 1));
     times.push(Times::mean(format!("mean call, {name}"), &times));
     times
 }
@@ -232,6 +277,103 @@ fn faster_line() {
     }
     times.iter().for_each(|one| line(&one.name, one.core, one.second));
     print_kept(&times);
+}
+
+/// A sum of the top speed: the core's, and the second program's closed form.
+fn one_sum() {
+    println!("one braking sum, S({TOP_SPEED})");
+    println!("{:40} {:>9} {:>9} {:>8}", "microseconds", "core", "second", "ratio");
+    for b in RATES {
+        let core_run = || rbu::braking_distance(black_box(b), black_box(TOP_SPEED));
+        let second_run = || s(black_box(b).into(), black_box(TOP_SPEED).into());
+        let (core, second) = time(2000, core_run, second_run);
+        // the closed form takes a few nanoseconds
+        println!("{:40} {core:9.4} {second:9.4} {:8.2}", format!("one sum, b {b}"), core / second);
+    }
+}
+
+/// Something of the core with `b` 1 and with the greatest `b`, and the number of sums that the one takes beyond the other.
+struct AtBoth {
+    name: String,
+    times: [f64; 2],
+    sums: f64,
+    /// it is held to `MOST_SUMS`
+    is_bound: bool,
+}
+
+impl AtBoth {
+    /// Rounds of both take turns, with rounds of one sum beside them.
+    fn of<R>(name: String, is_bound: bool, with: impl Fn(usize) -> R, without: impl Fn(usize) -> R) -> AtBoth {
+        let (mut times, mut sums) = ([vec![], vec![]], [vec![], vec![]]);
+        for _ in 0..301 {
+            for (k, b) in RATES.into_iter().enumerate() {
+                times[k].push(beyond(&mut || with(k), &mut || without(k)));
+                sums[k].push(round(100, &mut || rbu::braking_distance(black_box(b), black_box(TOP_SPEED))));
+            }
+        }
+        let (times, sums) = (times.map(middle), sums.map(middle));
+        AtBoth { name, times, sums: (times[0] - times[1]) / (sums[0] - sums[1]), is_bound }
+    }
+
+    fn load(name: &str, area: fn(u16) -> Description) -> AtBoth {
+        let files = RATES.map(|b| area(b).file());
+        AtBoth::of(format!("load, {name}"), true, |k| Some(rbu::bytes::load(black_box(&files[k]))), |_| None)
+    }
+
+    /// A call on a record that is kept, less what handing the record over takes.
+    fn call(name: String, is_bound: bool, areas: &[Area; 2], call: &Call) -> AtBoth {
+        let kept = areas.map(|area| rbu::Area::of_record(kept_of(&area.record())));
+        let run = |k: usize, call: Option<&Call>| {
+            let mut area = black_box(&kept[k]).clone();
+            (call.map(|call| call_kept(&mut area, call)), area)
+        };
+        assert_eq!([0, 1].map(|k| run(k, Some(call)).0), [Some(0); 2], "{name} is answered done");
+        AtBoth::of(name, is_bound, |k| run(k, Some(call)), |k| run(k, None))
+    }
+
+    fn mean(name: String, rows: &[AtBoth]) -> AtBoth {
+        let mean = |part: &dyn Fn(&AtBoth) -> f64| rows.iter().map(part).sum::<f64>() / rows.len() as f64;
+        let times = [0, 1].map(|k| mean(&|row| row.times[k]));
+        AtBoth { name, times, sums: mean(&|row| row.sums), is_bound: rows.iter().any(|row| row.is_bound) }
+    }
+}
+
+/// The steps of a cycle with all these trains far, or near; in Area A's shape a train also leaves and enters anew, with the other there
+/// alone; and their mean.
+fn calls_at_both(name: &str, area: fn(u16) -> Description, fronts: &[u8], stand: Stand) -> Vec<AtBoth> {
+    let is_bound = stand == Stand::Far;
+    let name = format!("{name}, {} {}", fronts.len(), stand.name());
+    let files = RATES.map(|b| area(b).file());
+    let areas = |due: u8| [0, 1].map(|k: usize| at_top_speed(&files[k], due, fronts, stand));
+    let step = |(due, step, call)| AtBoth::call(format!("{step}, {name}"), is_bound, &areas(due), &call);
+    let mut rows: Vec<AtBoth> = fast_steps().map(step).collect();
+    if fronts.len() == 2 {
+        let mut areas = areas(SPEED).map(|area| at_the_last(&area, 2));
+        for (step, call) in [("leave", Call::Leave { train: 2 }), ("enter", Call::Enter { train: 2, route: 2, speed: 0, length: 1 })] {
+            rows.push(AtBoth::call(format!("{step}, {name}"), is_bound, &areas, &call));
+            areas.iter_mut().for_each(|area| assert_eq!(area.call(&call), 0));
+        }
+    }
+    rows.push(AtBoth::mean(format!("mean call, {name}"), &rows));
+    rows
+}
+
+/// What the sums take, in Area A's shape and in the worst area, which is full and has a train on each second segment.
+fn sums() -> Vec<AtBoth> {
+    let (shape, full) = ("Area A's shape", "full area");
+    let mut rows = vec![AtBoth::load(shape, faster_area), AtBoth::load(full, faster_full_area)];
+    for stand in [Stand::Far, Stand::Near] {
+        rows.extend(calls_at_both(shape, faster_area, &fronts_in_area_a(), stand));
+    }
+    for stand in [Stand::Far, Stand::Near] {
+        rows.extend(calls_at_both(full, faster_full_area, &fronts_in_full_area(), stand));
+    }
+    println!("gmax {TOP_SPEED}, trains at the top speed without their next segment, all far or all near, calls on a record that is kept;");
+    println!("sums: (time at b 1 - time at b {TOP_SPEED}) / (one sum at b 1 - one sum at b {TOP_SPEED}), one sum timed beside each;");
+    println!("a load, and a call with all trains far, may come to {MOST_SUMS}");
+    println!("{:40} {:>9} {:>9} {:>8}", "microseconds, of the core", "b 1", format!("b {TOP_SPEED}"), "sums");
+    rows.iter().for_each(|row| println!("{:40} {:9.2} {:9.2} {:8.1}", row.name, row.times[0], row.times[1], row.sums));
+    rows
 }
 
 fn print_kept(times: &[Times]) {
@@ -304,6 +446,8 @@ fn main() {
     times.iter().for_each(|one| line(&one.name, one.core, one.second));
     print_kept(&times);
     faster_line();
+    one_sum();
+    let sums = sums();
     let slow_file = loads.iter().chain(&writes).any(|&ratio| ratio > MOST_OF_THE_SECOND);
     if slow_file {
         println!("bench: a load or a write of the core takes over {MOST_OF_THE_SECOND:.1} of the second program's");
@@ -316,7 +460,11 @@ fn main() {
     if slow_kept {
         println!("bench: a call on a kept record takes over {MOST_OF_A_RUN} of the same call inside a run");
     }
-    if slow_file || !slow_calls.is_empty() || slow_kept {
+    let many_sums: Vec<&AtBoth> = sums.iter().filter(|row| row.is_bound && row.sums > MOST_SUMS).collect();
+    for row in &many_sums {
+        println!("bench: {}: over {MOST_SUMS} sums", row.name);
+    }
+    if slow_file || !slow_calls.is_empty() || slow_kept || !many_sums.is_empty() {
         std::process::exit(1);
     }
 }

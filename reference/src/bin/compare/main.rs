@@ -1,11 +1,12 @@
 //! The core against the second program: braking, Area A's listing, files, lists of calls, records, the file sent back out of them,
-//! grants at merges, records and lists of a faster line, and of trains over many segments; each call by the functions over bytes and on a
-//! record that is kept. Seeded and repeatable; it prints counts, and ends with status 1 at the first difference and at a count that is too
+//! grants at merges, records and lists of a faster line, stops there, and trains over many segments; each call by the functions over bytes
+//! and on a record that is kept. Seeded and repeatable; it prints counts, and ends with status 1 at the first difference and at a count that is too
 //! low.
 //!
 //!     compare             the whole comparison
 //!     compare SEED        the same with another seed
 mod bounds;
+mod braking;
 mod faster;
 mod files;
 mod grants;
@@ -14,6 +15,7 @@ mod lengths;
 mod lists;
 mod records;
 mod sent;
+mod stops;
 
 use reference::script::script_of;
 use reference::*;
@@ -86,34 +88,17 @@ fn listing(seed: u64, seen: &mut kept::Seen) {
     }
 }
 
-/// S, and B: what is still run after this cycle is S of the speed that a cycle of full braking leaves.
-fn braking(seed: u64) {
-    let mut compared: u64 = 0;
-    for b in 1..=TOP_SPEED {
-        for v in 0..=TOP_SPEED {
-            same(seed, format_args!("S({v}) with b = {b}"), u64::from(rbu::braking_distance(b, v)), s(b.into(), v.into()));
-            let rest = rbu::braking_distance(b, v.saturating_sub(b));
-            same(seed, format_args!("B({v}) with b = {b}"), u64::from(rest), b_rest(b.into(), v.into()));
-            compared += 1;
-        }
-    }
-    counted("braking: S and B compared, for each speed from 0 and each rate from 1", compared, 2001 * 2000);
-    // "b = 1 and v = 2000 gives 2,001,000"
-    let way = rbu::braking_distance(1, 2000);
-    same(seed, "S(2000) with b = 1", way, 2_001_000);
-    println!("braking: b 1, v 2000: {way}");
-}
-
 fn main() {
     let seed = std::env::args().nth(1).map_or(1, |seed| seed.parse().expect("compare: the seed is a number"));
     let mut kept = kept::Seen::new(seed);
-    braking(seed);
+    braking::compare(seed);
     listing(seed, &mut kept);
     files::compare(seed, &mut kept);
     lists::compare(seed, &mut kept);
     records::compare(seed, &mut kept);
     grants::compare(seed, &mut kept);
     faster::compare(seed, &mut kept);
+    stops::compare(seed, &mut kept);
     lengths::compare(seed, &mut kept);
     kept.print();
     println!("compare: no difference");
