@@ -6,8 +6,8 @@
 /// "S(v) = v + (v − b) + (v − 2b) + .. while the terms are positive; S(0) = 0."
 ///
 /// The term v − i·b is positive for the first `terms` values of i, so the sum is
-/// terms·v − b·(0 + 1 + .. + (terms − 1)). Tests hold it against the sum term by term, and against the turns of R-5 of document 02: "After
-/// each turn the sum so far and S of the kept speed together make S(v)." It has no turns itself, so that it differs in kind from a sum.
+/// terms·v − b·(0 + 1 + .. + (terms − 1)). Tests hold it against the sum term by term, and against the turns of R-5 of document 02. It has no
+/// turns itself, so that it differs in kind from a sum.
 // reading: b is at least 1 by rule 4; for b = 0 the sum never ends and u64::MAX stands for it.
 pub fn s(b: u32, v: u32) -> u64 {
     if v == 0 {

@@ -64,21 +64,12 @@ fn the_turns_of_a_braking_sum() {
         for v in 0..=u32::from(TOP_SPEED) {
             let whole = s(b, v);
             let (mut sum, mut kept) = (0, v);
-            // "v − i × b afresh for each term"
-            let mut afresh = i64::from(v);
-            for turn in 1.. {
-                assert_eq!(kept == 0, afresh <= 0, "b = {b}, v = {v}, before turn {turn}");
-                if kept == 0 {
-                    break;
-                }
-                let is_last = kept <= b;
+            while kept > 0 {
                 sum += u64::from(kept);
-                kept = if is_last { 0 } else { kept - b };
-                afresh = i64::from(v) - i64::from(turn) * i64::from(b);
-                assert_eq!(i64::from(kept), afresh.max(0), "b = {b}, v = {v}, after turn {turn}");
-                assert_eq!(sum + s(b, kept), whole, "b = {b}, v = {v}, after turn {turn}");
+                kept = if kept > b { kept - b } else { 0 };
+                assert_eq!(sum + s(b, kept), whole, "b = {b}, v = {v}, with {kept} kept");
             }
-            assert_eq!((kept, sum), (0, whole), "b = {b}, v = {v}, at the end");
+            assert_eq!(sum, whole, "b = {b}, v = {v}, at the end");
         }
     }
 }

@@ -1,9 +1,9 @@
 //! The core and the second program on the same inputs, in one process: microseconds each and the ratio core / second program. Then the
 //! core alone: a call on a record that is kept, and the same call inside a run. It ends with status 1 where a load, a write or a call of
 //! the core takes longer than the second program's, or a call on a kept record too much longer than inside a run. The rows of a faster
-//! line stand apart and do not decide the status: there the core sums up to 2000 terms of S one by one, where the second program has its
-//! closed form. What these sums take is told for the core alone, as a number of sums: a load, and a call with all trains far, that comes to
-//! more than one ends with status 1 too.
+//! line stand apart and do not decide the status: there the core's sum of S has up to 2000 turns, where the second program has its
+//! closed form. What these sums take is told for the core alone, as a number of sums: it ends with status 1 too where a load, or a call
+//! with all trains far, comes to more than one and a half.
 //! Both programs test the whole record at every call and at every write. In the replays and the writes the buffers, for answers and state
 //! or for the file, are not cleared between runs; for a single call the state, or the kept record, is copied anew before each run, with
 //! and without the call.
@@ -217,28 +217,28 @@ fn fronts_in_full_area() -> Vec<u8> {
 
 /// Where trains at the top speed without their next segment are.
 #[derive(Clone, Copy, PartialEq, Eq)]
-enum Stand {
+enum Where {
     /// they just are near: their braking distances are needed
     Near,
     /// one decimetre before that
     Far,
 }
 
-impl Stand {
+impl Where {
     fn name(self) -> &'static str {
         match self {
-            Stand::Near => "near",
-            Stand::Far => "far",
+            Where::Near => "near",
+            Where::Far => "far",
         }
     }
 }
 
-fn at_top_speed(file: &[u8], due: u8, fronts: &[u8], stand: Stand) -> Area {
+fn at_top_speed(file: &[u8], due: u8, fronts: &[u8], at: Where) -> Area {
     let mut record = Record { due, ..load(file).expect("the area is accepted").record() };
     for (number, &front) in (1..).zip(fronts) {
         let route = front.min(record.tables.r);
-        let position = record.tables.segment(front).length - record.tables.d - u32::from(stand == Stand::Far);
-        let asks = u8::from(due == GRANT && stand == Stand::Near);
+        let position = record.tables.segment(front).length - record.tables.d - u32::from(at == Where::Far);
+        let asks = u8::from(due == GRANT && at == Where::Near);
         let train = RawTrain { route, place: front - route + 1, position, speed: TOP_SPEED, asks, length: 1, ..RawTrain::OFF };
         record.trains[usize::from(number) - 1] = train;
         record.allocations[usize::from(front) - 1] = number;
@@ -256,7 +256,7 @@ fn fast_steps() -> impl Iterator<Item = (u8, &'static str, Call<'static>)> {
 fn faster_calls(name: &str, description: &Description) -> Vec<Times> {
     let file = description.file();
     let mut times = vec![];
-    let stands = |due: u8| at_top_speed(&file, due, &fronts_in_area_a(), Stand::Near);
+    let stands = |due: u8| at_top_speed(&file, due, &fronts_in_area_a(), Where::Near);
     for (due, step, call) in fast_steps() {
         times.push(one_call(format!("{step}, {name}"), &file, &stands(due), &call));
     }
@@ -265,9 +265,9 @@ fn faster_calls(name: &str, description: &Description) -> Vec<Times> {
     times
 }
 
-/// The area of a faster line, with as many terms of S as there can be and with one.
+/// The area of a faster line, with as many turns of a braking sum as there can be and with one.
 fn faster_line() {
-    println!("a faster line; with b 1 the core sums {TOP_SPEED} terms of S, with b {TOP_SPEED} one; these rows do not decide the status");
+    println!("a faster line; with b 1 a braking sum of the core has {TOP_SPEED} turns, with b {TOP_SPEED} one; these rows do not decide the status");
     println!("{:40} {:>9} {:>9} {:>8}", "microseconds", "core", "second", "ratio");
     let mut times = vec![];
     for b in [1, TOP_SPEED] {
@@ -340,11 +340,11 @@ impl AtBoth {
 
 /// The steps of a cycle with all these trains far, or near; in Area A's shape a train also leaves and enters anew, with the other there
 /// alone; and their mean.
-fn calls_at_both(name: &str, area: fn(u16) -> Description, fronts: &[u8], stand: Stand) -> Vec<AtBoth> {
-    let is_bound = stand == Stand::Far;
-    let name = format!("{name}, {} {}", fronts.len(), stand.name());
+fn calls_at_both(name: &str, area: fn(u16) -> Description, fronts: &[u8], at: Where) -> Vec<AtBoth> {
+    let is_bound = at == Where::Far;
+    let name = format!("{name}, {} {}", fronts.len(), at.name());
     let files = RATES.map(|b| area(b).file());
-    let areas = |due: u8| [0, 1].map(|k: usize| at_top_speed(&files[k], due, fronts, stand));
+    let areas = |due: u8| [0, 1].map(|k: usize| at_top_speed(&files[k], due, fronts, at));
     let step = |(due, step, call)| AtBoth::call(format!("{step}, {name}"), is_bound, &areas(due), &call);
     let mut rows: Vec<AtBoth> = fast_steps().map(step).collect();
     if fronts.len() == 2 {
@@ -362,11 +362,11 @@ fn calls_at_both(name: &str, area: fn(u16) -> Description, fronts: &[u8], stand:
 fn sums() -> Vec<AtBoth> {
     let (shape, full) = ("Area A's shape", "full area");
     let mut rows = vec![AtBoth::load(shape, faster_area), AtBoth::load(full, faster_full_area)];
-    for stand in [Stand::Far, Stand::Near] {
-        rows.extend(calls_at_both(shape, faster_area, &fronts_in_area_a(), stand));
+    for at in [Where::Far, Where::Near] {
+        rows.extend(calls_at_both(shape, faster_area, &fronts_in_area_a(), at));
     }
-    for stand in [Stand::Far, Stand::Near] {
-        rows.extend(calls_at_both(full, faster_full_area, &fronts_in_full_area(), stand));
+    for at in [Where::Far, Where::Near] {
+        rows.extend(calls_at_both(full, faster_full_area, &fronts_in_full_area(), at));
     }
     println!("gmax {TOP_SPEED}, trains at the top speed without their next segment, all far or all near, calls on a record that is kept;");
     println!("sums: (time at b 1 - time at b {TOP_SPEED}) / (one sum at b 1 - one sum at b {TOP_SPEED}), one sum timed beside each;");

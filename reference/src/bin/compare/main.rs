@@ -1,7 +1,7 @@
 //! The core against the second program: braking, Area A's listing, files, lists of calls, records, the file sent back out of them,
-//! grants at merges, records and lists of a faster line, stops there, and trains over many segments; each call by the functions over bytes
-//! and on a record that is kept. Seeded and repeatable; it prints counts, and ends with status 1 at the first difference and at a count that is too
-//! low.
+//! grants at merges, records and lists of a faster line, stops there, and trains over many segments; each call by the functions over
+//! bytes and on a record that is kept. Seeded and repeatable; it prints counts, and ends with status 1 at the first difference and at a
+//! count that is too low.
 //!
 //!     compare             the whole comparison
 //!     compare SEED        the same with another seed

@@ -104,15 +104,14 @@ fn nears(seed: u64, b: u16, kept: &mut kept::Seen) {
 
 /// Trains about ends and about near beside each other: every second record is sound, and in each other one train is not.
 fn all(seed: u64, b: u16, random: &mut Random, kept: &mut kept::Seen) {
-    let (mut records, mut unsound): (u64, u64) = (0, 0);
+    let mut unsound: u64 = 0;
     let mut seen = [[[0; 3]; 2]; 2];
     for d in distances(b) {
         let (file, tables) = start(seed, &like_full_area(TOP_SPEED, b, d), kept);
         for k in 0..RECORDS {
             let (record, stands) = all_trains(random, &tables, k % 2 == 0);
             compare_record(seed, "all trains about ends and near", &file, &record, k % 2 == 0, kept);
-            records += 1;
-            unsound += k % 2;
+            unsound += u64::from(stands.iter().any(|(stand, _)| !stand.is_sound()));
             for (stand, about) in stands {
                 let (what, beyond) = match about {
                     About::End(beyond) => (0, beyond),
@@ -122,13 +121,12 @@ fn all(seed: u64, b: u16, random: &mut Random, kept: &mut kept::Seen) {
             }
         }
     }
-    counted(format_args!("stops: b {b}, records with 24 trains about ends and near"), records, 4 * RECORDS);
-    counted(format_args!("stops: b {b}, these unsound by one train"), unsound, 2 * RECORDS);
+    counted(format_args!("stops: b {b}, records with 24 trains about ends and near, unsound by one of them"), unsound, 2 * RECORDS);
     for (what, seen) in ["the way", "d"].into_iter().zip(seen) {
         for (next, seen) in NEXT.into_iter().zip(seen) {
             for (k, place) in PLACES.into_iter().enumerate() {
                 let least = if what == "the way" && next == NEXT[0] && k > 0 { EACH_UNSOUND } else { EACH };
-                counted(format_args!("stops: b {b}, trains of these with position + {what} = {place}, {next}"), seen[k], least);
+                counted(format_args!("stops: b {b}, one of 24 trains with position + {what} = {place}, {next}"), seen[k], least);
             }
         }
     }
