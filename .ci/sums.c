@@ -28,7 +28,8 @@ static bool near_1, near_2, holds_2;
 static void place(struct rbu_area *area, unsigned train, bool near, bool holds) {
     uint32_t position = area->tables.lengths[train - 1] - area->tables.margin - (near ? 0 : 1);
     bool asks = area->due == RBU_DUE_GRANT && near && !holds;
-    area->trains[train - 1] = (struct rbu_train){.route = train, .place = 1, .position = position, .speed = RBU_FASTEST, .length = 1, .asks = asks};
+    area->trains[train - 1] = (struct rbu_train){
+        .route = train, .place = 1, .position = position, .speed = RBU_FASTEST, .length = 1, .asks = asks};
     area->allocations[train - 1] = train;
     if (holds) area->allocations[2] = train;
 }
