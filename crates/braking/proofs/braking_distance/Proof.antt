@@ -1,4 +1,4 @@
--- The invariant is 02's sentence, and each turn is one of its laws.
+-- The invariant is 02's sentence. Before the first turn, after a turn, after the last and at the end it is one law each.
 use native.Mathlib.Omega.{arith}
 use Rattle.braking.specs.KeptSpeed.{KeptSum}
 use Rattle.braking.proofs.Laws.{S-bound}
@@ -15,29 +15,30 @@ abbrev μ-loop : tie.MeasureT-loop
 loop-holds : tie.Need-loop-holds Inv-loop μ-loop
 loop-holds c = search kept-start
 
-add-sum : tie.Need-add-sum Inv-loop μ-loop
-add-sum c =
-    let b = c .before .before .args .braking in
-    let v = c .before .before .args .speed in
-    omega (arith, kept-within b (omega arith) v (c .before .loop .sum) (c .before .loop .falling) (c .before .loop .inv), S-bound b (omega arith) 65535 v (omega arith))
-
-sub-falling : tie.Need-sub-falling Inv-loop μ-loop
-sub-falling c = omega arith
-
-loop-less : tie.Need-loop-less Inv-loop μ-loop
-loop-less c = omega arith
-
 loop-again : tie.Need-loop-again Inv-loop μ-loop
 loop-again c = search kept-turn
-
-loop-less-2 : tie.Need-loop-less-2 Inv-loop μ-loop
-loop-less-2 c = omega arith
 
 loop-again-2 : tie.Need-loop-again-2 Inv-loop μ-loop
 loop-again-2 c = search kept-last
 
 returns : tie.Need-returns Inv-loop μ-loop
 returns c = search kept-end
+
+-- the kept speed falls, and the sum fits
+loop-less : tie.Need-loop-less Inv-loop μ-loop
+loop-less c = omega arith
+
+loop-less-2 : tie.Need-loop-less-2 Inv-loop μ-loop
+loop-less-2 c = omega arith
+
+sub-falling : tie.Need-sub-falling Inv-loop μ-loop
+sub-falling c = omega arith
+
+add-sum : tie.Need-add-sum Inv-loop μ-loop
+add-sum c =
+    let b = c .before .before .args .braking in
+    let v = c .before .before .args .speed in
+    omega (arith, kept-within b (omega arith) v (c .before .loop .sum) (c .before .loop .falling) (c .before .loop .inv), S-bound b (omega arith) 65535 v (omega arith))
 
 pub braking-distance-spec : {M : Type 1} → statement M
 braking-distance-spec =
