@@ -16,8 +16,8 @@
 // - Threads: a function touches what it is handed and nothing else. Two threads may run calls on two records at the same time; on one
 //   record, one call at a time.
 // - Time: a call tests the whole record, and a start the whole file. Each sums the braking distance of `gmax` once at the most, cycle by
-//   cycle, and a call also that of each train that is within `d` of its segment's end and has not its next segment: the smaller `b` is
-//   beside `gmax`, the longer it takes. docs/ARCHITECTURE.md has times.
+//   cycle, and a call also that of each train that is within `d` of its segment's end and to which its next segment is not allocated: the
+//   smaller `b` is beside `gmax`, the longer it takes. docs/ARCHITECTURE.md has times.
 // - Slices are two arguments, a pointer and how many entries it has. A length of 0 goes with any pointer, NULL too. Every other
 //   pointer is not NULL, is aligned for its type, and lends that many entries for the time of the call. What a pointer that is not
 //   const points at overlaps nothing else that the call is handed. (That an empty slice may be NULL is tried by the tests; the machine

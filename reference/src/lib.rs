@@ -3,9 +3,9 @@
 //! A second program, written from document 01, in `demand3` also from the words of demand 3 that it names, in `send` from request R-1 of
 //! document 02, in the grant step and the record from its request R-2, of which the readings in docs/DECISIONS.md were given too, in the
 //! bounds of rules 4 and 6 from its request R-3, of which it names what was given too, in enter, the position step, the record and
-//! `demand3` from its request R-4, of which it names what was given too, and in what is held against `braking` from its request R-5; and
-//! from nothing else; to be read beside them. Sentences of the papers stand in quotation marks. Where a paper leaves something open, a
-//! comment begins with `reading:`.
+//! `demand3` from its request R-4, of which it names what was given too, and in `stops` and the tests of `braking` from its request R-5, of
+//! which it names what was given too; and from nothing else; to be read beside them. Sentences of the papers stand in quotation marks.
+//! Where a paper leaves something open, a comment begins with `reading:`.
 
 // The modules in the order of document 01, then of document 02.
 

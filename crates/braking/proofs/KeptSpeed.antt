@@ -22,11 +22,11 @@ module _ (b : ℕ) (rate : 1 ≤ b) (v sum kept : ℕ) (so-far : KeptSum b v sum
   unfolding KeptSum
   kept-turn = omega (arith, S-step b rate kept)
 
-  -- THE CLAIM: the last turn, from a kept speed of at most b, lowers it to 0
+  -- THE CLAIM: so is it after the last turn, which adds a kept speed of at most b and lowers it to 0
   pub kept-last : kept ≤ b → KeptSum b v (sum + kept) 0
   kept-last h = let none : kept - b ≡ 0 = omega arith in rw (sym none) kept-turn
 
-  -- no sum on the way is above S(v)
+  -- the sum after the turn to come is not above S(v)
   pub kept-within : sum + kept ≤ S b v
   unfolding KeptSum
   kept-within = omega (arith, S-above b rate kept)

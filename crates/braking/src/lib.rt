@@ -5,7 +5,7 @@ ghost use Rattle.braking.specs.Braking.{S};
 ghost use Rattle.braking.specs.Distance.{distanceAt};
 
 // S(speed) at the rate `braking`: the falling speed is kept, and lowered by the rate each turn, to 0 at the last. After each turn `KeptSum`
-// (specs/KeptSpeed) holds. The kept speed and the rate are of 32 bits, as the sum is, which takes a third off the time of a turn.
+// holds (specs/KeptSpeed; document 02, R-5). The kept speed and the rate have 32 bits, as the sum has, so that no turn widens them.
 pub fn braking_distance(speed: u16, braking: u16) -> u32
     requires { ⌜ 1 ≤ braking ⌝ }
     ensures { λ r. ⌜ r ≡ S braking speed ⌝ }

@@ -1,4 +1,5 @@
--- The invariant is 02's sentence. Before the first turn, after a turn, after the last and at the end it is one law each.
+-- The invariant is the sentence of document 02, R-5. It holds before the first turn, after a turn and after the last, and at the end it
+-- gives the answer: one law for each.
 use native.Mathlib.Omega.{arith}
 use Rattle.braking.specs.KeptSpeed.{KeptSum}
 use Rattle.braking.proofs.Laws.{S-bound}
