@@ -2,7 +2,8 @@
 // File and calls come from standard input, a call as a record of 64 bytes (docs/FORMATS.md). Standard output is what `replay` prints
 // for an input that it takes; each refusal is named on standard error. After the calls the area file is written back and held to the one
 // that was read; where a file is named, it goes there. The exit status is 1 where the file is refused, where a call is cut short or of
-// no known kind, and where the file cannot be written back.
+// no known kind, where the input cannot be read to its end, where the file cannot be written back, and where standard output cannot be
+// written.
 //
 //     rt staticlib rbu
 //     cargo build --release --offline --manifest-path reference/Cargo.toml --target-dir target/reference
@@ -138,6 +139,13 @@ static bool write_back(const uint8_t *file, const char *name) {
     return done;
 }
 
+// Standard output is written when it is flushed, so that a failure shows here at the latest.
+static bool all_printed(void) {
+    if (fflush(stdout) == 0 && !ferror(stdout)) return true;
+    fprintf(stderr, "the output cannot be written\n");
+    return false;
+}
+
 int main(int count, char **arguments) {
     static uint8_t file[RBU_FILE_SIZE];
     size_t size = fread(file, 1, sizeof file, stdin);
@@ -167,7 +175,12 @@ int main(int count, char **arguments) {
         fprintf(stderr, "call %lu: cut short, a call has %d bytes\n", call, 2 * RBU_CALL_ITEMS);
         status = 1;
     }
+    if (ferror(stdin)) {
+        fprintf(stderr, "the input cannot be read to its end\n");
+        status = 1;
+    }
     print_state();
     if (!write_back(file, count > 1 ? arguments[1] : NULL)) status = 1;
+    if (!all_printed()) status = 1;
     return status;
 }

@@ -39,7 +39,8 @@ pub mod send;
 // a writer of files for tests, and Area A
 pub mod write;
 
-// the binary script and the state as bytes, areas, lists and records for the comparison, and the core's record: not of the papers
+// the binary script, its text and the state as bytes, words for answers, the streams of the commands, areas, lists and records for the
+// comparison, and the core's record: not of the papers
 pub mod bounds;
 pub mod breaks;
 pub mod edges;
@@ -48,9 +49,12 @@ pub mod kept;
 pub mod lengths;
 pub mod merges;
 pub mod random;
+pub mod scenario;
 pub mod script;
 pub mod state;
 pub mod stops;
+pub mod streams;
+pub mod words;
 
 pub use area::{answer_of, answer_within, call_on, cycle, load, report_on, Area, Call};
 pub use braking::{b_rest, s};
@@ -62,6 +66,7 @@ pub use send::{file_of, send};
 pub use state::{record_of, state_of};
 pub use tables::{Route, Segment, Tables, ENTRY, EXIT};
 pub use view::{route_view, route_view_start};
+pub use words::word;
 pub use write::{
     area_a, full_area, like_area_a, like_full_area, merging_area, ore_line, put_checks, shortest, Description, AREA_A_CYCLE, AREA_A_ENTRIES,
 };

@@ -3,9 +3,6 @@
 use reference::*;
 use std::process::Command;
 
-/// Document 01's words for load's answers.
-const WORDS: [&str; 11] = ["done", "size", "damaged", "misfiled", "header", "margin", "segment", "joint", "order", "drop", "route"];
-
 fn areas(argument: &str) -> Vec<u8> {
     let output = Command::new(env!("CARGO_BIN_EXE_areas")).arg(argument).output().unwrap();
     assert!(output.status.success(), "{argument}");
@@ -24,7 +21,7 @@ fn verdicts() {
     for (name, says) in &verdicts {
         let file = areas(name);
         let (number, place) = answer_of(&file);
-        let mut right = format!("{number} {place} {}", WORDS[usize::from(number)]);
+        let mut right = format!("{number} {place} {}", word(number));
         if let Ok(tables) = read(&file) {
             right += &format!("/segments {} routes {}", tables.n, tables.r);
         }

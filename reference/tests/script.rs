@@ -5,10 +5,10 @@ use std::io::Write;
 use std::process::{Command, Stdio};
 
 /// The records that a text gives, or the message that refuses it.
-fn records(text: &str) -> Result<Vec<Vec<u16>>, String> {
+fn records(text: impl AsRef<[u8]>) -> Result<Vec<Vec<u16>>, String> {
     let mut command = Command::new(env!("CARGO_BIN_EXE_script"));
     let mut child = command.stdin(Stdio::piped()).stdout(Stdio::piped()).stderr(Stdio::piped()).spawn().unwrap();
-    child.stdin.take().unwrap().write_all(text.as_bytes()).unwrap();
+    child.stdin.take().unwrap().write_all(text.as_ref()).unwrap();
     let output = child.wait_with_output().unwrap();
     if !output.status.success() {
         assert!(output.stdout.is_empty());
@@ -20,11 +20,11 @@ fn records(text: &str) -> Result<Vec<Vec<u16>>, String> {
 }
 
 /// The kinds of these records.
-fn kinds(text: &str) -> Result<Vec<u16>, String> {
+fn kinds(text: impl AsRef<[u8]>) -> Result<Vec<u16>, String> {
     Ok(records(text)?.iter().map(|record| record[0]).collect())
 }
 
-fn says(text: &str, words: &str) {
+fn says(text: impl AsRef<[u8]>, words: &str) {
     let message = kinds(text).unwrap_err();
     assert!(message.contains(words), "{message}");
 }
@@ -79,4 +79,50 @@ fn unused_items() {
 fn an_empty_text_is_an_empty_script() {
     assert_eq!(kinds(""), Ok(vec![]));
     assert_eq!(kinds("\r\n\r# nothing\r"), Ok(vec![]));
+}
+
+/// A text in another encoding than plain text is named as what it is, with and without a mark at its start.
+#[test]
+fn wide_encodings() {
+    let text = "# two trains\nenter 1 1 250\n";
+    let units: Vec<u16> = text.encode_utf16().collect();
+    let little: Vec<u8> = units.iter().flat_map(|unit| unit.to_le_bytes()).collect();
+    let big: Vec<u8> = units.iter().flat_map(|unit| unit.to_be_bytes()).collect();
+    for (mark, text) in [(&[0xff, 0xfe], &little), (&[0xfe, 0xff], &big)] {
+        says(text, "script: the scenario is in UTF-16; save it as plain text, in UTF-8\n");
+        says([&mark[..], text].concat(), "script: the scenario is in UTF-16; save it as plain text, in UTF-8\n");
+    }
+    let wide: Vec<u8> = text.chars().flat_map(|c| (c as u32).to_le_bytes()).collect();
+    says(&wide, "the scenario is in UTF-32;");
+    says([&[0xff, 0xfe, 0, 0], &wide[..]].concat(), "the scenario is in UTF-32;");
+    // plain text with the mark of UTF-8 is plain text, and a comment may be in any encoding
+    assert_eq!(kinds("\u{feff}request"), Ok(vec![4]));
+    assert_eq!(kinds(b"request # Z\xfcge"), Ok(vec![4]));
+}
+
+/// A byte of 0 is named with its line, in a comment too; one that is no sign of an encoding does not pass for one.
+#[test]
+fn bytes_of_zero() {
+    says("request\ngr\0ant", "script: line 2: it has a byte of 0 (NUL), and a scenario is plain text\n");
+    says("r\0equest", "line 1: it has a byte of 0 (NUL)");
+    says("request # a\0b", "line 1: it has a byte of 0 (NUL)");
+    says("\0", "line 1: it has a byte of 0 (NUL)");
+}
+
+/// A word that is shown has no byte that a terminal would take for an order.
+#[test]
+fn words_are_shown_plainly() {
+    says("\u{1b}[31mfly", "line 1: there is no call '\\u{1b}[31mfly'");
+    says("leave \u{1b}[31m", "line 1: '\\u{1b}[31m' is no number");
+}
+
+/// A scenario may have 1,000 calls; of more it is said how many there are, and where they go over.
+#[test]
+fn too_many_calls() {
+    assert_eq!(kinds("request\n".repeat(1000)).unwrap().len(), 1000);
+    assert_eq!(kinds("cycle 300\n".repeat(250)).unwrap().len(), 1000);
+    says("request\n".repeat(1001), "script: the scenario has 1001 calls, and the most is 1000; line 1001 goes over\n");
+    says(format!("# long\n{}", "cycle 300\n".repeat(301)), "the scenario has 1204 calls, and the most is 1000; line 252 goes over");
+    // a line that cannot be read is named first
+    says("request\n".repeat(1001) + "fly", "line 1002: there is no call 'fly'");
 }

@@ -2,6 +2,7 @@
 // and the state that they come to. An input that it cannot take whole is refused before anything is run.
 use area::Area;
 use libc::STDERR_FILENO;
+use libc::STDIN_FILENO;
 use libc::STDOUT_FILENO;
 
 // Calls, and the bytes that spell them: 64 a call.
@@ -12,17 +13,27 @@ const MOST_BYTES: usize = 64000;
 // Room for a file, the longest script and one byte more, so that a longer input is seen to be longer.
 const INPUT_ROOM: usize = 66561;
 
-fn say_state(area: Area) {
-    console::say_number(b"due ", area.due as u64);
-    io::write_all(STDOUT_FILENO, b"\n");
-    let trains = area.trains;
-    display::say_trains(trains);
-    let allocations = area.allocations;
-    display::say_allocations(&allocations);
+// ---- what is printed: whether it was written, and nothing more once a write has failed
+fn say_line(text: &[u8], number: u64) -> bool {
+    console::say_number(text, number) && io::write_all(STDOUT_FILENO, b"\n")
+}
+
+fn say_line_of_two(text: &[u8], first: u64, second: u64) -> bool {
+    console::say_number(text, first) && say_line(b" ", second)
+}
+
+fn say_report(area: Area) -> bool {
     let report = area.report();
-    console::say_number(b"report ", report.allocated as u64);
-    console::say_number(b" ", report.free as u64);
-    io::write_all(STDOUT_FILENO, b"\n");
+    say_line_of_two(b"report ", report.allocated as u64, report.free as u64)
+}
+
+fn say_state(area: Area) -> bool {
+    let trains = area.trains;
+    let allocations = area.allocations;
+    say_line(b"due ", area.due as u64)
+        && display::say_trains(trains)
+        && display::say_allocations(&allocations)
+        && say_report(area)
 }
 
 // ---- refusals of the input
@@ -46,18 +57,16 @@ fn refuse_unknown(items: &[u16]) -> bool {
     true
 }
 
-fn run(file: &[u8], items: &[u16]) {
+fn run(file: &[u8], items: &[u16]) -> bool {
     let mut answers = [0u8; MOST_CALLS];
     let ran = runs::run_file(file, items, &mut answers);
     let answer = ran.answer;
-    console::say_number(b"load ", answers::number_of(answer) as u64);
-    console::say_number(b" ", answers::place_of(answer) as u64);
-    io::write_all(STDOUT_FILENO, b"\n");
-    if answers::number_of(answer) != 0 {
-        return;
+    let number = answers::number_of(answer);
+    let said = say_line_of_two(b"load ", number as u64, answers::place_of(answer) as u64);
+    if number != 0 {
+        return said;
     }
-    display::say_answers(&answers, ran.calls);
-    say_state(ran.area);
+    said && display::say_answers(&answers, ran.calls) && say_state(ran.area)
 }
 
 fn replay(input: &[u8]) {
@@ -76,12 +85,14 @@ fn replay(input: &[u8]) {
     if refuse_unknown(calls) {
         return;
     }
-    run(input::file_in(input), calls);
+    if !run(input::file_in(input), calls) {
+        console::say_unwritten(b"replay");
+    }
 }
 
 fn main() {
     let mut buffer = [0u8; INPUT_ROOM];
-    let input = console::read_input(&mut buffer);
+    let input = console::read_input(STDIN_FILENO, &mut buffer);
     if input.failed {
         refuse(b"the input could not be read\n");
         return;

@@ -2,7 +2,7 @@
 use libc::STDOUT_FILENO;
 
 // The word for an answer.
-fn say_word(number: u8) {
+fn say_word(number: u8) -> bool {
     match number {
         0 => io::write_all(STDOUT_FILENO, b"done\n"),
         1 => io::write_all(STDOUT_FILENO, b"size\n"),
@@ -29,13 +29,12 @@ fn say_word(number: u8) {
         22 => io::write_all(STDOUT_FILENO, b"buffer\n"),
         _ => io::write_all(STDOUT_FILENO, b"length\n"),
     }
-    ;
 }
 
 // A line with an answer's number, its place and its word.
-pub fn say_answer(number: u8, place: u16) {
-    console::say_number(b"", number as u64);
-    console::say_number(b" ", place as u64);
-    io::write_all(STDOUT_FILENO, b" ");
-    say_word(number);
+pub fn say_answer(number: u8, place: u16) -> bool {
+    console::say_number(b"", number as u64)
+        && console::say_number(b" ", place as u64)
+        && io::write_all(STDOUT_FILENO, b" ")
+        && say_word(number)
 }

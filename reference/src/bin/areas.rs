@@ -7,9 +7,10 @@
 //! Each file is Area A of document 01 with one thing changed, but for `full`, which has every segment and every route, for `ore_line`,
 //! which goes on after Area A's merge, and for `fast_line` and those at the bounds of R-3 of document 02, which have Area A's shape with
 //! speeds and lengths that fit.
+#![no_main]
 use reference::file::{route_start, segment_start};
 use reference::*;
-use std::io::Write;
+use std::ffi::c_int;
 
 fn planned(change: impl Fn(&mut Description)) -> Vec<u8> {
     let mut plan = area_a();
@@ -157,19 +158,22 @@ const ENTRIES: [(&str, &str); 5] = [
     ("margin_3999998", "enter of train 1: 19 0 too fast"),
 ];
 
-fn main() {
-    let wanted = std::env::args().nth(1).unwrap_or_else(|| "list".into());
-    let mut out = std::io::stdout().lock();
-    match wanted.as_str() {
-        "list" => files().iter().for_each(|(name, _, _)| writeln!(out, "{name}").unwrap()),
-        "verdicts" => files().iter().for_each(|(name, _, says)| writeln!(out, "{name} {says}").unwrap()),
-        "entries" => ENTRIES.iter().for_each(|(name, says)| writeln!(out, "{name} {says}").unwrap()),
+fn areas() -> Result<(), String> {
+    let named = |text: &mut dyn Iterator<Item = String>| text.collect::<String>().into_bytes();
+    let wanted = std::env::args_os().nth(1).unwrap_or_else(|| "list".into());
+    let wanted = wanted.to_string_lossy();
+    streams::write_output(&match &*wanted {
+        "list" => named(&mut files().iter().map(|(name, _, _)| format!("{name}\n"))),
+        "verdicts" => named(&mut files().iter().map(|(name, _, says)| format!("{name} {says}\n"))),
+        "entries" => named(&mut ENTRIES.iter().map(|(name, says)| format!("{name} {says}\n"))),
         _ => match files().into_iter().find(|(name, _, _)| *name == wanted) {
-            Some((_, file, _)) => out.write_all(&file).unwrap(),
-            None => {
-                eprintln!("areas: there is no file named {wanted}; 'areas list' names them");
-                std::process::exit(1);
-            }
+            Some((_, file, _)) => file,
+            None => return Err(format!("there is no file named {wanted}; 'areas list' names them")),
         },
-    }
+    })
+}
+
+#[no_mangle]
+pub extern "C" fn main() -> c_int {
+    streams::status("areas", 1, areas())
 }

@@ -1,4 +1,4 @@
--- No contract speaks of what is printed, so nothing has to be kept from turn to turn; the loop ends after segment 62.
+-- No contract speaks of what is printed, so nothing has to be kept from turn to turn; the loop ends after segment 62 or at a failed write.
 use Prim.Native.Nat.{_-_}
 use native.Mathlib.Omega.{arith}
 use borrow.Author.Needs.{needs}
@@ -17,6 +17,9 @@ loop-holds c = tt
 say-allocation-requires : tie.Need-say-allocation-requires Inv-loop μ-loop
 say-allocation-requires c κs = search needs
 
+returns : tie.Need-returns Inv-loop μ-loop
+returns c = search needs
+
 add-s : tie.Need-add-s Inv-loop μ-loop
 add-s c = omega arith
 
@@ -26,8 +29,8 @@ loop-less c = omega arith
 loop-again : tie.Need-loop-again Inv-loop μ-loop
 loop-again c = tt
 
-returns : tie.Need-returns Inv-loop μ-loop
-returns c = search needs
+returns-2 : tie.Need-returns-2 Inv-loop μ-loop
+returns-2 c = search needs
 
 pub say-allocations-spec : {M : Type 1} → statement M
 say-allocations-spec =
@@ -37,7 +40,7 @@ say-allocations-spec =
     μ-loop
     loop-holds
     say-allocation-requires
-    add-s
+    returns add-s
     loop-less
     loop-again
-    returns)
+    returns-2)

@@ -1,4 +1,4 @@
--- No contract speaks of what is printed, so nothing has to be kept from turn to turn; the loop ends with the last call.
+-- No contract speaks of what is printed, so nothing has to be kept from turn to turn; the loop ends with the last call or at a failed write.
 use Prim.Native.Nat.{_-_}
 use native.Mathlib.Omega.{arith}
 use borrow.Author.Needs.{needs}
@@ -17,6 +17,9 @@ loop-holds c = tt
 say-answer-requires : tie.Need-say-answer-requires Inv-loop μ-loop
 say-answer-requires c κs = search needs
 
+returns : tie.Need-returns Inv-loop μ-loop
+returns c = search needs
+
 add-k : tie.Need-add-k Inv-loop μ-loop
 add-k c = omega arith
 
@@ -26,10 +29,10 @@ loop-less c = omega arith
 loop-again : tie.Need-loop-again Inv-loop μ-loop
 loop-again c = tt
 
-returns : tie.Need-returns Inv-loop μ-loop
-returns c = search needs
+returns-2 : tie.Need-returns-2 Inv-loop μ-loop
+returns-2 c = search needs
 
 pub say-answers-spec : {M : Type 1} → statement M
 say-answers-spec =
     tie.close
-    (tie.spec Inv-loop μ-loop loop-holds say-answer-requires add-k loop-less loop-again returns)
+    (tie.spec Inv-loop μ-loop loop-holds say-answer-requires returns add-k loop-less loop-again returns-2)
