@@ -1,5 +1,5 @@
--- What a grant step does, as plain facts in the papers' words (document 01, "The calls"; document 02, R-2): the facts that an inspector
--- reads.
+-- What a grant step does, as plain facts in the papers' words (document 01, "The calls"; document 02, R-2), to be
+-- read beside the definition.
 use Prim.Native.Nat.{ℕ, _+_, _≤_, min}
 use mathlib.Core.Path.{_≡_}
 use mathlib.Core.Bool.{false}

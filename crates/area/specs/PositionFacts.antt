@@ -1,5 +1,5 @@
--- What a position step does, as plain facts in the papers' words (document 01, "The calls"; document 02, R-4): the facts that an inspector
--- reads.
+-- What a position step does, as plain facts in the papers' words (document 01, "The calls"; document 02, R-4), to be
+-- read beside the definition.
 use Prim.Native.Nat.{ℕ, _+_, _≤_, _<_}
 use mathlib.Core.Path.{_≡_}
 use Rattle.lists.specs.Words.{at}

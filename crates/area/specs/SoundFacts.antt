@@ -1,4 +1,4 @@
--- What a sound record means, as plain facts (document 01, "A sound record"; document 02, R-4): the record of facts that an inspector reads.
+-- What a sound record means, as plain facts (document 01, "A sound record"; document 02, R-4): a record of facts to be read beside the definition.
 use Prim.Native.Nat.{ℕ, _≤_}
 use mathlib.Core.Path.{_≡_}
 use mathlib.Core.Logic.{_⊎_}
