@@ -149,11 +149,16 @@ static bool all_printed(void) {
 int main(int count, char **arguments) {
     static uint8_t file[RBU_FILE_SIZE];
     size_t size = fread(file, 1, sizeof file, stdin);
+    if (ferror(stdin)) {
+        fprintf(stderr, "the input cannot be read to its end\n");
+        return 1;
+    }
     uint16_t place;
     uint8_t number = rbu_start(&area, file, size, &place);
     printf("load %u %u\n", number, place);
     if (number != RBU_ANSWER_DONE) {
         fprintf(stderr, "load: refused, %u %s, place %u\n", number, word((enum rbu_answer)number), place);
+        all_printed();
         return 1;
     }
 

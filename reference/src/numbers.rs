@@ -90,6 +90,8 @@ pub const ITEMS: usize = 32;
 pub const MOST_WISHES: usize = 25;
 /// So many calls `replay` takes, and a scenario may have.
 pub const MOST_CALLS: usize = 1000;
+/// So many bytes a scenario may have.
+pub const MOST_TEXT: usize = 10_000_000;
 
 // docs/FORMATS.md: the state
 

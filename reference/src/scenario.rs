@@ -1,7 +1,7 @@
 //! A scenario, the text of a script (docs/FORMATS.md): its lines, the calls of each, and what is wrong with one that cannot be read.
 
 use crate::area::Call;
-use crate::numbers::{ITEMS, MOST_CALLS, MOST_WISHES, WISHES};
+use crate::numbers::{ITEMS, MOST_CALLS, MOST_TEXT, MOST_WISHES, WISHES};
 use crate::script::items_of;
 
 /// A line that has calls.
@@ -16,6 +16,9 @@ pub struct Line {
 
 /// The lines of a scenario, or what is wrong with it. A line ends with a line feed, a carriage return, or both.
 pub fn lines(scenario: &[u8]) -> Result<Vec<Line>, String> {
+    if scenario.len() > MOST_TEXT {
+        return Err(format!("the scenario has more than {MOST_TEXT} bytes"));
+    }
     if let Some(encoding) = wide_encoding(scenario) {
         return Err(format!("the scenario is in {encoding}; save it as plain text, in UTF-8"));
     }
@@ -23,6 +26,8 @@ pub fn lines(scenario: &[u8]) -> Result<Vec<Line>, String> {
     let text = String::from_utf8_lossy(scenario);
     let text = text.trim_start_matches('\u{feff}').replace("\r\n", "\n").replace('\r', "\n");
     let mut lines = vec![];
+    // all calls, and the line that goes over the most; from there on calls are only counted
+    let (mut all, mut over) = (0, None);
     for (number, line) in (1..).zip(text.lines()) {
         let wrong = |wrong| format!("line {number}: {wrong}");
         if line.contains('\0') {
@@ -30,36 +35,35 @@ pub fn lines(scenario: &[u8]) -> Result<Vec<Line>, String> {
         }
         let words: Vec<&str> = line.split('#').next().unwrap_or("").split_whitespace().collect();
         if let [call, numbers @ ..] = &words[..] {
-            lines.push(Line { number, text: words.join(" "), calls: calls(call, numbers).map_err(wrong)? });
+            let calls = calls(call, numbers).map_err(wrong)?;
+            all += calls.len();
+            if all <= MOST_CALLS {
+                lines.push(Line { number, text: words.join(" "), calls });
+            } else {
+                over.get_or_insert(number);
+            }
         }
     }
-    let mut so_far = 0;
-    let over = lines.iter().find(|line| {
-        so_far += line.calls.len();
-        so_far > MOST_CALLS
-    });
     match over {
         None => Ok(lines),
-        Some(over) => {
-            let all: usize = lines.iter().map(|line| line.calls.len()).sum();
-            Err(format!("the scenario has {all} calls, and the most is {MOST_CALLS}; line {} goes over", over.number))
-        }
+        Some(over) => Err(format!("the scenario has {all} calls, and the most is {MOST_CALLS}; line {over} goes over")),
     }
 }
 
-/// The encoding of a text whose characters have two or four bytes. It begins with a mark, or its plain characters show it: by which of
-/// its first four bytes are 0.
+/// The encoding of a text whose characters have two or four bytes. It begins with a mark; or its bytes of 0 show it: one stands beside
+/// the first character, which is a plain one, and the others on the same side of theirs.
 fn wide_encoding(text: &[u8]) -> Option<&'static str> {
     match text {
         [0xff, 0xfe, 0, 0, ..] | [0, 0, 0xfe, 0xff, ..] => return Some("UTF-32"),
         [0xff, 0xfe, ..] | [0xfe, 0xff, ..] => return Some("UTF-16"),
+        [first, 0, 0, 0, ..] | [0, 0, 0, first, ..] if *first != 0 => return Some("UTF-32"),
         _ => (),
     }
-    match text.get(..4)?.iter().map(|byte| *byte == 0).collect::<Vec<bool>>()[..] {
-        [false, true, true, true] | [true, true, true, false] => Some("UTF-32"),
-        [false, true, false, true] | [true, false, true, false] => Some("UTF-16"),
-        _ => None,
-    }
+    let zeros: Vec<usize> = text.iter().enumerate().filter(|(_, byte)| **byte == 0).map(|(at, _)| at).collect();
+    // one byte of 0 alone is no sign of an encoding, but in a text of one character
+    let shown = matches!(text.len(), 2 | 3) || zeros.len() > 1;
+    let side = *zeros.first()?;
+    (side < 2 && shown && zeros.iter().all(|at| at % 2 == side)).then_some("UTF-16")
 }
 
 fn number(text: &str) -> Result<u16, String> {

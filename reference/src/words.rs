@@ -27,7 +27,7 @@ const WORDS: [&str; 24] = [
     "length",
 ];
 
-/// The word for an answer's number.
-pub fn word(number: u8) -> &'static str {
-    WORDS.get(usize::from(number)).copied().unwrap_or("no such answer")
+/// The word for an answer's number, where there is such an answer.
+pub fn word(number: u8) -> Option<&'static str> {
+    WORDS.get(usize::from(number)).copied()
 }

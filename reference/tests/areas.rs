@@ -21,7 +21,7 @@ fn verdicts() {
     for (name, says) in &verdicts {
         let file = areas(name);
         let (number, place) = answer_of(&file);
-        let mut right = format!("{number} {place} {}", word(number));
+        let mut right = format!("{number} {place} {}", word(number).unwrap());
         if let Ok(tables) = read(&file) {
             right += &format!("/segments {} routes {}", tables.n, tables.r);
         }

@@ -95,6 +95,11 @@ fn wide_encodings() {
     let wide: Vec<u8> = text.chars().flat_map(|c| (c as u32).to_le_bytes()).collect();
     says(&wide, "the scenario is in UTF-32;");
     says([&[0xff, 0xfe, 0, 0], &wide[..]].concat(), "the scenario is in UTF-32;");
+    // without a mark, where only some characters are plain ones; and a text of one character
+    for text in ["#Ж\nrequest\n", "#"] {
+        says(text.encode_utf16().flat_map(u16::to_le_bytes).collect::<Vec<u8>>(), "the scenario is in UTF-16;");
+        says(text.encode_utf16().flat_map(u16::to_be_bytes).collect::<Vec<u8>>(), "the scenario is in UTF-16;");
+    }
     // plain text with the mark of UTF-8 is plain text, and a comment may be in any encoding
     assert_eq!(kinds("\u{feff}request"), Ok(vec![4]));
     assert_eq!(kinds(b"request # Z\xfcge"), Ok(vec![4]));
@@ -123,6 +128,7 @@ fn too_many_calls() {
     assert_eq!(kinds("cycle 300\n".repeat(250)).unwrap().len(), 1000);
     says("request\n".repeat(1001), "script: the scenario has 1001 calls, and the most is 1000; line 1001 goes over\n");
     says(format!("# long\n{}", "cycle 300\n".repeat(301)), "the scenario has 1204 calls, and the most is 1000; line 252 goes over");
+    says("#".repeat(10_000_001), "script: the scenario has more than 10000000 bytes\n");
     // a line that cannot be read is named first
     says("request\n".repeat(1001) + "fly", "line 1002: there is no call 'fly'");
 }

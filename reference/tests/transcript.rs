@@ -59,7 +59,19 @@ fn cut_off() {
     let scenario = scenario("cut_off", SCENARIO);
     let wrong = "transcript: what replay printed is not all of what it prints for the scenario\n";
     let cut = (0..PRINTED.len()).map(|n| PRINTED[..n].to_string());
-    let others = [PRINTED.replacen("0\n", "", 1), PRINTED.replacen("20\n", "20\n0\n", 1), "load 2 1\n0\n".into(), "load 0 0\n".into()];
+    let others = [
+        PRINTED.replacen("0\n", "", 1),
+        PRINTED.replacen("20\n", "20\n0\n", 1),
+        PRINTED.replacen("20\n", "24\n", 1),
+        PRINTED.replacen("20\n", "+20\n", 1),
+        PRINTED.replacen("due 0", "0", 1),
+        PRINTED.replacen("train 1", "allocation 1", 1).replacen("allocation 1 1", "train 1", 1),
+        PRINTED.replacen("allocation 1 1", "report 1 2", 1),
+        PRINTED.to_string() + "report 1 2\n",
+        "load 24 0\n".into(),
+        "load 2 1\n0\n".into(),
+        "load 0 0\n".into(),
+    ];
     for printed in cut.chain(others) {
         assert_eq!(said(transcript(&scenario, printed.as_bytes())), ("".into(), wrong.into(), Some(2)), "{printed}");
     }

@@ -2,8 +2,8 @@
 //!
 //!     transcript SCENARIO <PRINTED    reads what `replay` printed for the scenario from standard input
 //!
-//! The first line and the state stay as they are; between them stands a line for each call: the scenario's line, by its number and as it
-//! is written, the call where the line is a cycle, and the answer's number and word. The exit status is 0; 1 where the area file is
+//! The first line and the state stay as they are; between them stands a line for each call: the scenario's line, by its number and with
+//! its words, the call where the line is a cycle, and the answer's number and word. The exit status is 0; 1 where the area file is
 //! refused; and 2 where the scenario cannot be read, where what was printed is not all of what `replay` prints for it, and where the
 //! output cannot be written.
 #![no_main]
@@ -23,54 +23,72 @@ fn rows(lines: &[Line]) -> Vec<String> {
     lines.iter().flat_map(|line| line.calls.iter().map(move |(name, _)| row(line, name))).collect()
 }
 
-/// The number and the place of `load NUMBER PLACE`.
-fn load_of(line: &str) -> Option<(u8, u16)> {
-    let (number, place) = line.strip_prefix("load ")?.split_once(' ')?;
-    Some((number.parse().ok()?, place.parse().ok()?))
+/// A number as `replay` prints it.
+fn number<N: std::str::FromStr + ToString>(text: &str) -> Option<N> {
+    text.parse().ok().filter(|number: &N| number.to_string() == text)
+}
+
+/// What load answered: a number, its word, and a place.
+struct Load {
+    number: u8,
+    word: &'static str,
+    place: u16,
+}
+
+fn load_of(line: &str) -> Option<Load> {
+    let (number_text, place) = line.strip_prefix("load ")?.split_once(' ')?;
+    let load = number(number_text)?;
+    Some(Load { number: load, word: word(load)?, place: number(place)? })
+}
+
+/// Whether these lines are a state from its first to its last: `due`, the trains, the allocations, `report`.
+fn is_state(lines: &[&str]) -> bool {
+    let kinds: Vec<&str> = lines.iter().map(|line| line.split(' ').next().unwrap_or("")).collect();
+    let [first, between @ .., last] = &kinds[..] else { return false };
+    let trains = between.iter().take_while(|kind| **kind == "train").count();
+    *first == "due" && *last == "report" && between[trains..].iter().all(|kind| *kind == "allocation")
 }
 
 /// The transcript, with load's answer, or nothing where what was printed is cut off or is of another scenario.
-fn transcript(printed: &str, rows: &[String]) -> Option<(String, (u8, u16))> {
+fn transcript(printed: &str, rows: &[String]) -> Option<(String, Load)> {
     // the last line is whole only if it ends
     let printed: Vec<&str> = printed.strip_suffix('\n')?.split('\n').collect();
-    let (load, rest) = printed.split_first()?;
-    let answer = load_of(load)?;
-    let mut lines = vec![load.to_string()];
-    if answer.0 == 0 {
-        let (answers, state) = rest.split_at_checked(rows.len())?;
-        for (row, answer) in rows.iter().zip(answers) {
-            lines.push(format!("{row}: {answer} {}", word(answer.parse().ok()?)));
-        }
-        let whole = state.first()?.starts_with("due ") && state.last()?.starts_with("report ");
-        lines.extend(whole.then_some(state)?.iter().map(|line| line.to_string()));
-    } else if !rest.is_empty() {
-        return None;
+    let (first, rest) = printed.split_first()?;
+    let load = load_of(first)?;
+    if load.number != 0 {
+        return rest.is_empty().then(|| (format!("{first}\n"), load));
     }
-    Some((lines.join("\n") + "\n", answer))
+    let (answers, state) = rest.split_at_checked(rows.len())?;
+    let mut lines = vec![first.to_string()];
+    for (row, answer) in rows.iter().zip(answers) {
+        lines.push(format!("{row}: {answer} {}", word(number(answer)?)?));
+    }
+    lines.extend(is_state(state).then_some(state)?.iter().map(|line| line.to_string()));
+    Some((lines.join("\n") + "\n", load))
 }
 
 /// Writes the transcript and gives load's answer.
-fn write() -> Result<(u8, u16), String> {
+fn write() -> Result<Load, String> {
     // what was printed is read first: a file that is opened would stand in the place of a closed input
-    let printed = streams::read_input().map_err(|wrong| format!("what replay printed cannot be read: {wrong}"))?;
+    let printed = streams::read_input(u64::MAX).map_err(|wrong| format!("what replay printed cannot be read: {wrong}"))?;
     let arguments: Vec<_> = std::env::args_os().collect();
     let [_, name] = &arguments[..] else { return Err("which scenario? transcript SCENARIO".into()) };
     let text = std::fs::read(name).map_err(|wrong| format!("the scenario cannot be read: {wrong}"))?;
     let rows = rows(&scenario::lines(&text)?);
-    let (transcript, answer) = std::str::from_utf8(&printed)
+    let (transcript, load) = std::str::from_utf8(&printed)
         .ok()
         .and_then(|printed| transcript(printed, &rows))
         .ok_or("what replay printed is not all of what it prints for the scenario")?;
     streams::write_output(transcript.as_bytes())?;
-    Ok(answer)
+    Ok(load)
 }
 
 #[no_mangle]
 pub extern "C" fn main() -> c_int {
     match write() {
-        Ok((0, _)) => 0,
-        Ok((number, place)) => {
-            eprintln!("load: refused, {number} {}, place {place}", word(number));
+        Ok(Load { number: 0, .. }) => 0,
+        Ok(Load { number, word, place }) => {
+            streams::say(format!("load: refused, {number} {word}, place {place}"));
             REFUSED
         }
         Err(wrong) => streams::status("transcript", FAILED, Err(wrong)),
