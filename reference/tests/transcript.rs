@@ -5,7 +5,7 @@ use std::process::{Command, Output, Stdio};
 
 const SCENARIO: &str = "# a train\n\nenter 1 1 250  # enters\n\tcycle   300\r\nleave 1 # not yet\r\rspeed 1 2\n";
 
-const PRINTED: &str = "load 0 0\n0\n0\n0\n0\n0\n20\n21\ndue 0\ntrain 1 route 1\nallocation 1 1\nreport 1 2\n";
+const PRINTED: &str = "load 0 0\n0\n0\n0\n0\n0\n20\n21\ndue 0\ntrain 1 route 1 place 1 position 300 speed 300 asks 0 count 0 length 1\nallocation 1 1\nreport 1 2\n";
 
 const TRANSCRIPT: &str = "load 0 0
 line 3: enter 1 1 250: 0 done
@@ -16,7 +16,7 @@ line 4: cycle 300, position: 0 done
 line 5: leave 1: 20 no exit
 line 7: speed 1 2: 21 wishes
 due 0
-train 1 route 1
+train 1 route 1 place 1 position 300 speed 300 asks 0 count 0 length 1
 allocation 1 1
 report 1 2
 ";
@@ -65,10 +65,18 @@ fn cut_off() {
         PRINTED.replacen("20\n", "24\n", 1),
         PRINTED.replacen("20\n", "+20\n", 1),
         PRINTED.replacen("due 0", "0", 1),
-        PRINTED.replacen("train 1", "allocation 1", 1).replacen("allocation 1 1", "train 1", 1),
+        PRINTED.replacen("20\n", "22\n", 1),
+        PRINTED.replacen("20\n", "10\n", 1),
+        PRINTED.replacen("load 0 0", "load 0 1", 1),
+        PRINTED.replacen("due 0", "due", 1),
+        PRINTED.replacen("asks 0 ", "", 1),
+        PRINTED.replacen("position 300", "position x", 1),
+        PRINTED.replacen("allocation 1 1", "allocation 1", 1),
+        PRINTED.replacen("report 1 2", "report 1 2 3", 1),
+        PRINTED.replacen("due 0\n", "due 0\nallocation 2 1\n", 1),
         PRINTED.replacen("allocation 1 1", "report 1 2", 1),
         PRINTED.to_string() + "report 1 2\n",
-        "load 24 0\n".into(),
+        "load 11 0\n".into(),
         "load 2 1\n0\n".into(),
         "load 0 0\n".into(),
     ];

@@ -35,18 +35,31 @@ struct Load {
     place: u16,
 }
 
+/// A file's answers are 0 to 10.
 fn load_of(line: &str) -> Option<Load> {
-    let (number_text, place) = line.strip_prefix("load ")?.split_once(' ')?;
-    let load = number(number_text)?;
-    Some(Load { number: load, word: word(load)?, place: number(place)? })
+    let (answer, place) = line.strip_prefix("load ")?.split_once(' ')?;
+    let (answer, place) = (number(answer)?, number(place)?);
+    (answer <= 10 && (answer != 0 || place == 0)).then_some(Load { number: answer, word: word(answer)?, place })
 }
 
-/// Whether these lines are a state from its first to its last: `due`, the trains, the allocations, `report`.
+/// The word for an answer to a call: done, or a refusal that is neither a file's nor a buffer's.
+fn call_word(answer: &str) -> Option<&'static str> {
+    word(number(answer).filter(|answer| matches!(answer, 0 | 11..=21 | 23))?)
+}
+
+/// Whether a line is of this form, in which # stands for a number.
+fn is_of(form: &str, line: &str) -> bool {
+    let (form, line): (Vec<&str>, Vec<&str>) = (form.split(' ').collect(), line.split(' ').collect());
+    form.len() == line.len()
+        && form.iter().zip(line).all(|(form, word)| if *form == "#" { number::<u32>(word).is_some() } else { *form == word })
+}
+
+/// Whether these lines are a state from its first to its last: the step due, the trains, the allocations, the report.
 fn is_state(lines: &[&str]) -> bool {
-    let kinds: Vec<&str> = lines.iter().map(|line| line.split(' ').next().unwrap_or("")).collect();
-    let [first, between @ .., last] = &kinds[..] else { return false };
-    let trains = between.iter().take_while(|kind| **kind == "train").count();
-    *first == "due" && *last == "report" && between[trains..].iter().all(|kind| *kind == "allocation")
+    let [first, between @ .., last] = lines else { return false };
+    let is_train = |line: &&&str| is_of("train # route # place # position # speed # asks # count # length #", line);
+    let trains = between.iter().take_while(is_train).count();
+    is_of("due #", first) && between[trains..].iter().all(|line| is_of("allocation # #", line)) && is_of("report # #", last)
 }
 
 /// The transcript, with load's answer, or nothing where what was printed is cut off or is of another scenario.
@@ -61,7 +74,7 @@ fn transcript(printed: &str, rows: &[String]) -> Option<(String, Load)> {
     let (answers, state) = rest.split_at_checked(rows.len())?;
     let mut lines = vec![first.to_string()];
     for (row, answer) in rows.iter().zip(answers) {
-        lines.push(format!("{row}: {answer} {}", word(number(answer)?)?));
+        lines.push(format!("{row}: {answer} {}", call_word(answer)?));
     }
     lines.extend(is_state(state).then_some(state)?.iter().map(|line| line.to_string()));
     Some((lines.join("\n") + "\n", load))
