@@ -54,6 +54,8 @@ pub mod script;
 pub mod state;
 pub mod stops;
 pub mod streams;
+// the wrapper's own, which is there without the core
+#[path = "../../rust/src/words.rs"]
 pub mod words;
 
 pub use area::{answer_of, answer_within, call_on, cycle, load, report_on, Area, Call};

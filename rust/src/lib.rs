@@ -24,6 +24,7 @@
 
 pub mod bytes;
 mod linked;
+mod words;
 
 use core::fmt;
 use linked::*;
@@ -54,38 +55,10 @@ pub struct Refusal {
     pub place: u16,
 }
 
-/// The words for the answers, by number: document 01's, and for 22 and 23 ours.
-const WORDS: [&str; 24] = [
-    "done",
-    "size",
-    "damaged",
-    "misfiled",
-    "header",
-    "margin",
-    "segment",
-    "joint",
-    "order",
-    "drop",
-    "route",
-    "unsound",
-    "turn",
-    "train",
-    "already on",
-    "not on",
-    "route number",
-    "no entry",
-    "taken",
-    "too fast",
-    "no exit",
-    "wishes",
-    "buffer",
-    "length",
-];
-
 impl Refusal {
     /// The word for it.
     pub fn word(&self) -> &'static str {
-        WORDS.get(usize::from(self.number)).copied().unwrap_or("no such answer")
+        words::word(self.number).unwrap_or("no such answer")
     }
 }
 

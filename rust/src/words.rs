@@ -1,4 +1,4 @@
-//! The words for answers (docs/FORMATS.md).
+//! The words for the answers, by number: document 01's, and for 22 and 23 ours (docs/FORMATS.md).
 
 const WORDS: [&str; 24] = [
     "done",
