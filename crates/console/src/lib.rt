@@ -1,4 +1,4 @@
-// What the programs read and print: an input to its end, and a number after a text. What prints says whether it was written, and
+// What a program reads and prints: an input to its end, and a number after a text. What prints says whether it was written, and
 // prints nothing more once a write has failed.
 ghost use Prim.Native.Nat.{_≤_};
 ghost use lib.ListN.{length};

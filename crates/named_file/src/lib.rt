@@ -1,4 +1,4 @@
-// The area file that a program is to judge or run: the one that its argument names, or standard input where it has no argument.
+// The area file that a program is to run: the one that its argument names, or standard input where it has no argument.
 ghost use Rattle.io.specs.Counts.{Counts};
 use console::Input;
 use libc::STDERR_FILENO;

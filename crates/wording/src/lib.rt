@@ -1,4 +1,4 @@
-// What the programs print of an answer: its number, its place and its word (docs/FORMATS.md).
+// What a program prints of an answer: its number, its place and its word (docs/FORMATS.md).
 use libc::STDOUT_FILENO;
 
 // The word for an answer.
