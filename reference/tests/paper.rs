@@ -66,7 +66,7 @@ fn the_turns_of_a_braking_sum() {
             let (mut sum, mut kept) = (0, v);
             while kept > 0 {
                 sum += u64::from(kept);
-                kept = if kept > b { kept - b } else { 0 };
+                kept = kept.saturating_sub(b);
                 assert_eq!(sum + s(b, kept), whole, "b = {b}, v = {v}, with {kept} kept");
             }
             assert_eq!(sum, whole, "b = {b}, v = {v}, at the end");

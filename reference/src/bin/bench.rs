@@ -187,8 +187,8 @@ fn long_trains(file: &[u8]) -> Area {
 fn long_train_calls() -> Vec<Times> {
     let (name, file) = ("full area, long trains", full_area().file());
     let area = long_trains(&file);
-    let may_leave = |number: &u8| *number % 4 == 0 && area.record().train(*number).next(area.tables()).is_none();
-    let train = (1..=TRAINS).find(may_leave).expect("a train over four segments is at its route's end");
+    let may_leave = |number: &u8| area.record().train(*number).next(area.tables()).is_none();
+    let train = (4..=TRAINS).step_by(4).find(may_leave).expect("a train over four segments is at its route's end");
     let (mut times, area) = steps(name, &file, area);
     times.extend(leave_and_enter(name, &file, area, train.into(), 1, LONGEST_TRAIN));
     times.push(Times::mean(format!("mean call, {name}"), &times));
