@@ -39,7 +39,7 @@ pub mod send;
 // a writer of files for tests, and Area A
 pub mod write;
 
-// the binary script, its text and the state as bytes, words for answers, the streams of the commands, areas, lists and records for the
+// the binary script and the state as bytes, words for answers, the output of the maker of area files, areas, lists and records for the
 // comparison, and the core's record: not of the papers
 pub mod bounds;
 pub mod breaks;
@@ -49,7 +49,6 @@ pub mod kept;
 pub mod lengths;
 pub mod merges;
 pub mod random;
-pub mod scenario;
 pub mod script;
 pub mod state;
 pub mod stops;

@@ -88,10 +88,6 @@ pub const ROUTE_BLOCK_ZEROS: Range<usize> = 480..496;
 pub const ITEMS: usize = 32;
 /// So many wishes a call has room for.
 pub const MOST_WISHES: usize = 25;
-/// So many calls `replay` takes, and a scenario may have.
-pub const MOST_CALLS: usize = 1000;
-/// So many bytes a scenario may have.
-pub const MOST_TEXT: usize = 10_000_000;
 
 // docs/FORMATS.md: the state
 

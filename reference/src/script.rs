@@ -1,4 +1,4 @@
-//! The binary script of `run` and `replay` (docs/FORMATS.md): 32 items of 16 bits a call.
+//! The binary script that `rbu_run_file` and `rbu_run_record` run (docs/FORMATS.md): 32 items of 16 bits a call.
 
 use crate::area::Call;
 use crate::numbers::{ITEMS, MOST_WISHES};

@@ -15,6 +15,15 @@ fn lines(argument: &str) -> Vec<(String, String)> {
     text.lines().map(|line| line.split_once(' ').unwrap()).map(|(name, says)| (name.into(), says.into())).collect()
 }
 
+/// So many of a thing.
+fn counted(number: u8, thing: &str) -> String {
+    match number {
+        1 => format!("1 {thing}"),
+        _ => format!("{number} {thing}s"),
+    }
+}
+
+/// What `rbu check` must print of a file after its name.
 #[test]
 fn verdicts() {
     let verdicts = lines("verdicts");
@@ -23,7 +32,7 @@ fn verdicts() {
         let (number, place) = answer_of(&file);
         let mut right = format!("{number} {place} {}", word(number).unwrap());
         if let Ok(tables) = read(&file) {
-            right += &format!("/segments {} routes {}", tables.n, tables.r);
+            right += &format!(", {}, {}", counted(tables.n, "segment"), counted(tables.r, "route"));
         }
         assert_eq!(*says, right, "{name}");
     }

@@ -1,7 +1,7 @@
 //! Makes area files.
 //!
 //!     areas NAME          writes one file to standard output; `areas list` names them
-//!     areas verdicts      writes, for each file, its name and the line that `verdict` must print for it
+//!     areas verdicts      writes, for each file, its name and what `rbu check` must print of it
 //!     areas entries       writes, for each file on which `area_a` is refused an entry, its name and the line that it must print
 //!
 //! Each file is Area A of document 01 with one thing changed, but for `full`, which has every segment and every route, for `ore_line`,
@@ -45,7 +45,7 @@ fn fast_line() -> Description {
     line
 }
 
-/// Every file, with what `verdict` must print for it.
+/// Every file, with what `rbu check` must print of it: number, place and word of the answer, and the counts of an accepted one.
 fn files() -> Vec<(&'static str, Vec<u8>, &'static str)> {
     let a = area_a().file();
     let mut longer = a.clone();
@@ -65,14 +65,14 @@ fn files() -> Vec<(&'static str, Vec<u8>, &'static str)> {
     // all lengths are 4,000,000, which is above d + gmax with a `d` one less
     let margin_3999999 = Description { d: LONGEST - 1, ..like_area_a(1, 1, LONGEST - 2) };
     vec![
-        ("area_a", a.clone(), "0 0 done/segments 3 routes 2"),
-        ("full", full_area().file(), "0 0 done/segments 62 routes 30"),
-        ("fast_line", fast_line().file(), "0 0 done/segments 3 routes 2"),
-        ("ore_line", ore_line().file(), "0 0 done/segments 4 routes 2"),
-        ("no_entry", planned(|p| p.segments[1].flags = 0), "0 0 done/segments 3 routes 2"),
-        ("one_entry", planned(|p| p.routes[1] = vec![1, 3]), "0 0 done/segments 3 routes 2"),
-        ("limit_249", planned(|p| p.segments[0].limit = 249), "0 0 done/segments 3 routes 2"),
-        ("single_route", planned(|p| p.routes.truncate(1)), "0 0 done/segments 3 routes 1"),
+        ("area_a", a.clone(), "0 0 done, 3 segments, 2 routes"),
+        ("full", full_area().file(), "0 0 done, 62 segments, 30 routes"),
+        ("fast_line", fast_line().file(), "0 0 done, 3 segments, 2 routes"),
+        ("ore_line", ore_line().file(), "0 0 done, 4 segments, 2 routes"),
+        ("no_entry", planned(|p| p.segments[1].flags = 0), "0 0 done, 3 segments, 2 routes"),
+        ("one_entry", planned(|p| p.routes[1] = vec![1, 3]), "0 0 done, 3 segments, 2 routes"),
+        ("limit_249", planned(|p| p.segments[0].limit = 249), "0 0 done, 3 segments, 2 routes"),
+        ("single_route", planned(|p| p.routes.truncate(1)), "0 0 done, 3 segments, 1 route"),
         ("empty", vec![], "1 0 size"),
         ("shorter", a[..FILE_SIZE - 1].to_vec(), "1 0 size"),
         ("longer", longer, "1 0 size"),
@@ -91,25 +91,25 @@ fn files() -> Vec<(&'static str, Vec<u8>, &'static str)> {
         ("segments_63", patched(N_AT, SEGMENTS + 1), "4 0 header"),
         ("no_routes", patched(R_AT, 0), "4 0 header"),
         ("routes_31", patched(R_AT, ROUTES + 1), "4 0 header"),
-        ("gmax_1001", like_area_a(1001, 1001, 1001).file(), "0 0 done/segments 3 routes 2"),
-        ("gmax_2000", like_area_a(TOP_SPEED, 10, 201_000).file(), "0 0 done/segments 3 routes 2"),
+        ("gmax_1001", like_area_a(1001, 1001, 1001).file(), "0 0 done, 3 segments, 2 routes"),
+        ("gmax_2000", like_area_a(TOP_SPEED, 10, 201_000).file(), "0 0 done, 3 segments, 2 routes"),
         ("gmax_2001", like_area_a(TOP_SPEED + 1, 10, 201_201).file(), "4 0 header"),
         ("no_braking", planned(|p| p.b = 0), "4 0 header"),
         ("braking_301", planned(|p| p.b = 301), "4 0 header"),
-        ("margin_1000001", like_area_a(300, 10, 1_000_001).file(), "0 0 done/segments 3 routes 2"),
-        ("margin_3999998", like_area_a(1, 1, LONGEST - 2).file(), "0 0 done/segments 3 routes 2"),
+        ("margin_1000001", like_area_a(300, 10, 1_000_001).file(), "0 0 done, 3 segments, 2 routes"),
+        ("margin_3999998", like_area_a(1, 1, LONGEST - 2).file(), "0 0 done, 3 segments, 2 routes"),
         ("margin_3999999", margin_3999999.file(), "6 1 segment"),
         ("margin_4000000", planned(|p| p.d = LONGEST), "6 1 segment"),
         ("margin_4000001", planned(|p| p.d = LONGEST + 1), "4 0 header"),
         ("margin_4649", planned(|p| p.d = 4649), "5 0 margin"),
         ("margin_2000999", like_area_a(TOP_SPEED, 1, 2_000_999).file(), "5 0 margin"),
-        ("margin_2001000", like_area_a(TOP_SPEED, 1, 2_001_000).file(), "0 0 done/segments 3 routes 2"),
+        ("margin_2001000", like_area_a(TOP_SPEED, 1, 2_001_000).file(), "0 0 done, 3 segments, 2 routes"),
         ("two_segments", patched(N_AT, 2), "6 1 segment"),
         ("length_4950", planned(|p| p.segments[1].length = 4950), "6 2 segment"),
-        ("length_4951", planned(|p| p.segments[1].length = 4951), "0 0 done/segments 3 routes 2"),
-        ("length_1000000", planned(|p| p.segments[2].length = 1_000_000), "0 0 done/segments 3 routes 2"),
-        ("length_1000001", planned(|p| p.segments[2].length = 1_000_001), "0 0 done/segments 3 routes 2"),
-        ("length_4000000", planned(|p| p.segments[2].length = LONGEST), "0 0 done/segments 3 routes 2"),
+        ("length_4951", planned(|p| p.segments[1].length = 4951), "0 0 done, 3 segments, 2 routes"),
+        ("length_1000000", planned(|p| p.segments[2].length = 1_000_000), "0 0 done, 3 segments, 2 routes"),
+        ("length_1000001", planned(|p| p.segments[2].length = 1_000_001), "0 0 done, 3 segments, 2 routes"),
+        ("length_4000000", planned(|p| p.segments[2].length = LONGEST), "0 0 done, 3 segments, 2 routes"),
         ("length_4000001", planned(|p| p.segments[2].length = LONGEST + 1), "6 3 segment"),
         ("limit_0", planned(|p| p.segments[0].limit = 0), "6 1 segment"),
         ("limit_301", planned(|p| p.segments[0].limit = 301), "6 1 segment"),
@@ -175,5 +175,5 @@ fn areas() -> Result<(), String> {
 
 #[no_mangle]
 pub extern "C" fn main() -> c_int {
-    streams::status("areas", 1, areas())
+    streams::status("areas", areas())
 }
