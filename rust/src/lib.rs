@@ -62,7 +62,7 @@ impl Refusal {
     }
 }
 
-/// `NUMBER PLACE WORD`, as `verdict` prints it.
+/// `NUMBER PLACE WORD`, as `rbu check` prints it.
 impl fmt::Display for Refusal {
     fn fmt(&self, f: &mut fmt::Formatter<'_>) -> fmt::Result {
         write!(f, "{} {} {}", self.number, self.place, self.word())
