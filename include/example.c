@@ -1,14 +1,13 @@
 // How a unit's program uses the core: one record, started with an area file, and then calls as they come, each by its own function.
-// File and calls come from standard input, a call as a record of 64 bytes (docs/FORMATS.md). Standard output is what `replay` prints
-// for an input that it takes; each refusal is named on standard error. After the calls the area file is written back and held to the one
-// that was read; where a file is named, it goes there. The exit status is 1 where the file is refused, where a call is cut short or of
-// no known kind, where the input cannot be read to its end, where the file cannot be written back, and where standard output cannot be
-// written.
+// File and calls come from standard input, a call as a record of 64 bytes (docs/FORMATS.md). Standard output has load's answer, the number
+// of each call's answer, and the state as `rbu run` prints it; each refusal is named on standard error. After the calls the area file is
+// written back and held to the one that was read; where a file is named, it goes there. The exit status is 1 where the file is refused,
+// where a call is cut short or of no known kind, where the input cannot be read to its end, where the file cannot be written back, and
+// where standard output cannot be written.
 //
-//     rt staticlib rbu
-//     cargo build --release --offline --manifest-path reference/Cargo.toml --target-dir target/reference
+//     make
 //     cc -Iinclude include/example.c target/staticlib/librbu.a -o target/example
-//     (target/reference/release/areas area_a; target/reference/release/script <docs/scenarios/merge.txt) | target/example target/back
+//     (target/rbu make docs/areas/area_a.area; target/rbu script docs/scenarios/merge.txt) | target/example target/back
 #include <stdio.h>
 #include <string.h>
 

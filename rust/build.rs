@@ -8,6 +8,8 @@ fn main() {
     println!("cargo::rerun-if-changed=build.rs");
     println!("cargo::rerun-if-changed={}", archive.display());
     println!("cargo::rustc-link-search=native={}", archives.display());
+    // for the build script of a program that names the archive it links
+    println!("cargo::metadata=archive={}", archive.display());
     if !archive.is_file() {
         println!("cargo::error=target/staticlib/librbu.a is not there: run `rt staticlib rbu` first, in the folder above rust/");
     }

@@ -1,0 +1,20 @@
+//! `rbu script`: the calls of a scenario as bytes, for firmware and C (docs/FORMATS.md).
+use crate::arguments::Given;
+use crate::scenario::{self, Scenario};
+use crate::streams::{shown, write, Failure, Input, Status};
+use std::ffi::OsStr;
+
+pub fn run(given: &Given) -> Result<Status, Failure> {
+    let scenario = read(&given.operands[0])?;
+    let calls = scenario.lines.iter().flat_map(|line| line.calls());
+    let bytes: Vec<u8> = calls.flat_map(|(call, _)| call.items()).flat_map(u16::to_le_bytes).collect();
+    write(given.value("-o"), &bytes)?;
+    Ok(Status::Done)
+}
+
+/// The scenario of this name.
+pub fn read(name: &OsStr) -> Result<Scenario, String> {
+    let mut input = Input::open(name)?;
+    input.read_to(crate::lines::MOST_TEXT + 1)?;
+    scenario::read(&input.bytes).map_err(|wrong| format!("{}: {wrong}", shown(name)))
+}
