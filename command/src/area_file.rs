@@ -38,8 +38,8 @@ impl AreaFile {
             }
             return Ok(AreaFile { name, bytes, source: Source::File });
         }
-        let (plan, lines) = text::read(&bytes).map_err(named)?;
-        Ok(AreaFile { name, bytes: plan.file().to_vec(), source: Source::Text(lines) })
+        let (tables, lines) = text::read(&bytes).map_err(named)?;
+        Ok(AreaFile { name, bytes: tables.file().to_vec(), source: Source::Text(lines) })
     }
 }
 

@@ -5,8 +5,8 @@ use crate::explain;
 use crate::faults::warnings;
 use crate::layout::{N_AT, R_AT};
 use crate::lines::counted;
-use crate::plan::Plan;
 use crate::streams::{print, say, Failure, Status};
+use crate::tables::Tables;
 
 pub fn run(given: &Given) -> Result<Status, Failure> {
     let all = given.has("--all");
@@ -39,7 +39,7 @@ fn checked(area: &AreaFile, all: bool) -> (String, Status) {
             let many = |at: usize, thing| counted(area.bytes[at].into(), thing);
             let mut lines = format!("{}: 0 0 done, {}, {}", area.name, many(N_AT, "segment"), many(R_AT, "route"));
             if let (true, Ok(file)) = (all, area.bytes[..].try_into()) {
-                lines.extend(warnings(&Plan::of_file(file), &area.source).iter().map(|warning| format!("\n    warning: {warning}")));
+                lines.extend(warnings(&Tables::of_file(file), &area.source).iter().map(|warning| format!("\n    warning: {warning}")));
             }
             (lines, Status::Done)
         }

@@ -6,7 +6,7 @@
 //! a segment has such a link, no other one is said to be missing there, neither by rule 7 nor by the steps of routes. Of a route with a
 //! wrong count no place is tested, and of a place that lists no segment no step to it or from it.
 use crate::layout::*;
-use crate::plan::{Plan, Segment};
+use crate::tables::{Segment, Tables};
 use rbu::{braking_distance, FASTEST, FILE_SIZE, LONGEST, ROUTES, SEGMENTS};
 use std::ops::Range;
 
@@ -81,7 +81,7 @@ pub fn faults(file: &[u8], source: &Source) -> Vec<Fault> {
     let Ok(whole) = <&[u8; FILE_SIZE]>::try_from(file) else {
         return vec![Fault { number: 1, place: 0, what: size(file.len()) }];
     };
-    let mut teller = Teller { file: whole, source, plan: Plan::of_file(whole), found: vec![] };
+    let mut teller = Teller { file: whole, source, tables: Tables::of_file(whole), found: vec![] };
     teller.checks();
     teller.tails();
     teller.header();
@@ -164,7 +164,7 @@ struct Teller<'a> {
     file: &'a [u8; FILE_SIZE],
     source: &'a Source,
     /// what the file spells; routes are read from the file, since their counts may be wrong
-    plan: Plan,
+    tables: Tables,
     found: Vec<Fault>,
 }
 
@@ -173,7 +173,7 @@ impl Teller<'_> {
         self.found.push(Fault { number, place: place as u16, what });
     }
 
-    /// N and R as they are stored; the plan has no more than there is room for.
+    /// N and R as they are stored; the tables have no more than there is room for.
     fn n(&self) -> usize {
         self.file[N_AT].into()
     }
@@ -223,7 +223,7 @@ impl Teller<'_> {
 
     /// Rule 4.
     fn header(&mut self) {
-        let (version, n, r, gmax, b, d) = (self.file[VERSION_AT], self.n(), self.r(), self.plan.gmax, self.plan.b, self.plan.d);
+        let (version, n, r, gmax, b, d) = (self.file[VERSION_AT], self.n(), self.r(), self.tables.gmax, self.tables.b, self.tables.d);
         let mut wrong = vec![];
         if version != VERSION {
             wrong.push(format!("the version is {version} ({}); it must be {VERSION}", self.at(VERSION_AT, 1)));
@@ -253,7 +253,7 @@ impl Teller<'_> {
 
     /// Rule 5.
     fn margin(&mut self) {
-        let Plan { gmax, b, d, .. } = self.plan;
+        let Tables { gmax, b, d, .. } = self.tables;
         // 0 where b is 0, so that nothing is said then
         let way = braking_distance(b, gmax);
         if d < way {
@@ -288,7 +288,7 @@ impl Teller<'_> {
     }
 
     fn length_and_limit(&self, s: usize) -> Vec<String> {
-        let (gmax, d, Segment { length, limit, .. }) = (self.plan.gmax, self.plan.d, *self.segment(s));
+        let (gmax, d, Segment { length, limit, .. }) = (self.tables.gmax, self.tables.d, *self.segment(s));
         let length_is = || format!("its length is {length} ({})", self.at(segment_at(s) + LENGTH_AT, 4));
         let mut wrong = vec![];
         // any d may stand here, so the sum may take more than 32 bits
@@ -325,7 +325,7 @@ impl Teller<'_> {
     // what 7 to 10 read: segments 1 to N, and their links to such
 
     fn segment(&self, s: usize) -> &Segment {
-        &self.plan.segments[s - 1]
+        &self.tables.segments[s - 1]
     }
 
     fn next(&self, s: usize) -> Links {
@@ -387,7 +387,7 @@ impl Teller<'_> {
 
     /// Rule 9.
     fn drops(&mut self) {
-        let b = u32::from(self.plan.b);
+        let b = u32::from(self.tables.b);
         for (s, _, to) in self.all_next() {
             let (own, its) = (u32::from(self.segment(s).limit), u32::from(self.segment(to).limit));
             if own > its + b {
@@ -444,14 +444,14 @@ impl Teller<'_> {
 // ---- warnings
 
 /// What is odd about an accepted area: nobody wants it, and the core takes it.
-pub fn warnings(plan: &Plan, source: &Source) -> Vec<String> {
+pub fn warnings(tables: &Tables, source: &Source) -> Vec<String> {
     let mut told = vec![];
-    if !plan.segments.iter().any(Segment::is_entry) {
+    if !tables.segments.iter().any(Segment::is_entry) {
         told.push("no segment is an entry: no train can enter".to_string());
     }
-    told.extend((1..).zip(&plan.routes).flat_map(|(number, route)| ends(plan, source, number, route)));
-    told.extend(unused(plan, source));
-    told.extend(equal(plan, source));
+    told.extend((1..).zip(&tables.routes).flat_map(|(number, route)| ends(tables, source, number, route)));
+    told.extend(unused(tables, source));
+    told.extend(equal(tables, source));
     told
 }
 
@@ -460,9 +460,9 @@ fn route_text(source: &Source, number: usize) -> String {
 }
 
 /// Whether trains can enter on a route, and leave from it.
-fn ends(plan: &Plan, source: &Source, number: usize, route: &[u8]) -> Vec<String> {
+fn ends(tables: &Tables, source: &Source, number: usize, route: &[u8]) -> Vec<String> {
     let name = || route_text(source, number);
-    let segment = |s: u8| plan.segments.get(usize::from(s).wrapping_sub(1)).copied().unwrap_or_default();
+    let segment = |s: u8| tables.segments.get(usize::from(s).wrapping_sub(1)).copied().unwrap_or_default();
     let mut told = vec![];
     if let Some(first) = route.first().filter(|first| !segment(**first).is_entry()) {
         told.push(format!("{} starts at segment {first}, which is no entry: no train can enter on it", name()));
@@ -474,9 +474,9 @@ fn ends(plan: &Plan, source: &Source, number: usize, route: &[u8]) -> Vec<String
 }
 
 /// The segments on no route.
-fn unused(plan: &Plan, source: &Source) -> Option<String> {
-    let on_none = |s: &usize| !plan.routes.iter().flatten().any(|&listed| usize::from(listed) == *s);
-    let numbers: Vec<usize> = (1..=plan.segments.len()).filter(on_none).collect();
+fn unused(tables: &Tables, source: &Source) -> Option<String> {
+    let on_none = |s: &usize| !tables.routes.iter().flatten().any(|&listed| usize::from(listed) == *s);
+    let numbers: Vec<usize> = (1..=tables.segments.len()).filter(on_none).collect();
     match numbers[..] {
         [] => None,
         [s] => Some(format!("segment {s} ({}) is on no route: no train can run on it", source.at(segment_bytes(s)))),
@@ -488,8 +488,8 @@ fn unused(plan: &Plan, source: &Source) -> Option<String> {
 }
 
 /// Each route that is equal to one before it, with the first such.
-fn equal(plan: &Plan, source: &Source) -> Vec<String> {
-    let routes = || (1..).zip(&plan.routes);
+fn equal(tables: &Tables, source: &Source) -> Vec<String> {
+    let routes = || (1..).zip(&tables.routes);
     let before = |number: usize, route: &[u8]| routes().take(number - 1).find(|(_, other)| **other == route).map(|(first, _)| first);
     let told = |first, second| format!("{} and {} list the same segments", route_text(source, first), route_text(source, second));
     routes().filter_map(|(number, route)| before(number, route).map(|first| told(first, number))).collect()

@@ -1,16 +1,16 @@
 //! `rbu show`: an area as text.
 use crate::area_file::AreaFile;
 use crate::arguments::Given;
-use crate::plan::Plan;
 use crate::streams::{write, Failure, Status};
+use crate::tables::Tables;
 use crate::text;
 use rbu::{Refusal, FILE_SIZE};
 
 pub fn run(given: &Given) -> Result<Status, Failure> {
     let area = AreaFile::read(&given.operands[0])?;
     let answer = rbu::load(&area.bytes);
-    let plan = spelt(&area.bytes).map_err(|wrong| unspelt(&area.name, answer, &wrong))?;
-    let text = text::written(&plan, given.has("--metres"));
+    let tables = spelt(&area.bytes).map_err(|wrong| unspelt(&area.name, answer, &wrong))?;
+    let text = text::written(&tables, given.has("--metres"));
     let (text, status) = match answer {
         Ok(()) => (text, Status::Done),
         Err(refusal) => (format!("# {refusal}\n{text}"), Status::Refused),
@@ -25,7 +25,7 @@ fn unspelt(name: &str, answer: Result<(), Refusal>, wrong: &str) -> Failure {
 }
 
 /// The area of a file that a text can spell, or the first byte that no text spells.
-pub fn spelt(bytes: &[u8]) -> Result<Plan, String> {
+pub fn spelt(bytes: &[u8]) -> Result<Tables, String> {
     let Ok(file) = <&[u8; FILE_SIZE]>::try_from(bytes) else {
         let wrong = |what| Err(format!("it {what}, and an area file has {FILE_SIZE} bytes"));
         return match bytes.len() {
@@ -33,10 +33,10 @@ pub fn spelt(bytes: &[u8]) -> Result<Plan, String> {
             _ => wrong(format!("goes on with byte {FILE_SIZE}")),
         };
     };
-    let plan = Plan::of_file(file);
-    let spelt = plan.file();
+    let tables = Tables::of_file(file);
+    let spelt = tables.file();
     match (0..FILE_SIZE).find(|&at| file[at] != spelt[at]) {
-        None => Ok(plan),
+        None => Ok(tables),
         Some(at) => Err(format!("byte {at} is {}, where a text has {}", file[at], spelt[at])),
     }
 }

@@ -3,7 +3,7 @@
 use crate::faults::Lines;
 use crate::layout::{ENTRY, EXIT, ROUTE_SEGMENTS};
 use crate::lines::{self, listed, number, number_16, number_8};
-use crate::plan::{Plan, Segment};
+use crate::tables::{Segment, Tables};
 use rbu::{ROUTES, SEGMENTS};
 
 /// What a text of an area is called where something is wrong with it.
@@ -12,7 +12,7 @@ pub const WHAT: &str = "text";
 // ---- from a text
 
 /// The area that a text spells, with the lines of its parts; or what is wrong with it.
-pub fn read(bytes: &[u8]) -> Result<(Plan, Lines), String> {
+pub fn read(bytes: &[u8]) -> Result<(Tables, Lines), String> {
     let text = lines::decoded(bytes, WHAT)?;
     let (mut area, mut segments, mut routes) = (None, Rows::new("segment"), Rows::new("route"));
     lines::each(&text, WHAT, |line| {
@@ -31,18 +31,18 @@ pub fn read(bytes: &[u8]) -> Result<(Plan, Lines), String> {
     let (area, (gmax, b, d)) = area.ok_or("there is no line 'area gmax G b B d D'")?;
     let ((segment_lines, segments), (route_lines, routes)) = (segments.whole()?, routes.whole()?);
     let (segments, said): (Vec<Segment>, Vec<Option<[u8; 2]>>) = segments.into_iter().unzip();
-    let mut plan = Plan { gmax, b, d, segments, routes };
+    let mut tables = Tables { gmax, b, d, segments, routes };
     for (number, said) in (1..).zip(said) {
-        plan.segments[number - 1].previous = match said {
+        tables.segments[number - 1].previous = match said {
             Some(previous) => previous,
-            None => plan.usual_previous(number).ok_or_else(|| too_many(&plan, number, segment_lines[number - 1]))?,
+            None => tables.usual_previous(number).ok_or_else(|| too_many(&tables, number, segment_lines[number - 1]))?,
         };
     }
-    Ok((plan, Lines { area, segments: segment_lines, routes: route_lines }))
+    Ok((tables, Lines { area, segments: segment_lines, routes: route_lines }))
 }
 
-fn too_many(plan: &Plan, number: usize, line: usize) -> String {
-    let from = listed(&plan.leading_to(number), "and");
+fn too_many(tables: &Tables, number: usize, line: usize) -> String {
+    let from = listed(&tables.leading_to(number), "and");
     format!("line {line}: segments {from} lead to segment {number}, and a segment has two previous links at the most")
 }
 
@@ -238,22 +238,22 @@ fn route_line(words: &mut Words) -> Result<Vec<u8>, String> {
 // ---- to a text
 
 /// The text of an area, in columns, with lengths in decimetres or in metres.
-pub fn written(plan: &Plan, metres: bool) -> String {
+pub fn written(tables: &Tables, metres: bool) -> String {
     let length = |length| length_text(length, metres);
-    let mut text = format!("area  gmax {}  b {}  d {}\n", plan.gmax, plan.b, length(plan.d));
+    let mut text = format!("area  gmax {}  b {}  d {}\n", tables.gmax, tables.b, length(tables.d));
     let rows: Vec<[Cell; 6]> = (1..)
-        .zip(&plan.segments)
+        .zip(&tables.segments)
         .map(|(number, segment)| {
             let from =
-                if plan.usual_previous(number) == Some(segment.previous) { Cell::default() } else { links("from", segment.previous) };
+                if tables.usual_previous(number) == Some(segment.previous) { Cell::default() } else { links("from", segment.previous) };
             let to = if segment.next == [0, 0] { Cell::default() } else { links("to", segment.next) };
             let (number, limit) = (Cell::of("segment", number), Cell::of("limit", segment.limit));
             [number, Cell::of("length", length(segment.length)), limit, flags(segment.flags), to, from]
         })
         .collect();
     text += &table(&rows);
-    let wide = plan.routes.len().to_string().len();
-    let routes: Vec<String> = (1..).zip(&plan.routes).map(|(number, route)| route_text(number, wide, route)).collect();
+    let wide = tables.routes.len().to_string().len();
+    let routes: Vec<String> = (1..).zip(&tables.routes).map(|(number, route)| route_text(number, wide, route)).collect();
     if !routes.is_empty() {
         text += "\n";
     }

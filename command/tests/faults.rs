@@ -8,7 +8,7 @@ use planters::{Bed, Told, PLANTERS};
 use rbu::{braking_distance, FASTEST, FILE_SIZE, LONGEST, ROUTES, SEGMENTS};
 use rbu_command::faults::{faults, warnings, Fault, Lines, Source};
 use rbu_command::layout::*;
-use rbu_command::plan::Plan;
+use rbu_command::tables::Tables;
 
 const AREA_A: &[u8; FILE_SIZE] = include_bytes!("../../crates/area_a/stdin");
 
@@ -22,7 +22,7 @@ fn answer(file: &[u8], source: &Source) -> u8 {
     let answer = rbu::load(file).err().map(|refusal| (refusal.number, refusal.place));
     let told = faults(file, source);
     let place = |fault: &Fault| (fault.number, fault.place);
-    assert_eq!(told.first().map(place), answer, "of {:?}\n{told:?}", Plan::of_file(&padded(file)));
+    assert_eq!(told.first().map(place), answer, "of {:?}\n{told:?}", Tables::of_file(&padded(file)));
     assert!(told.is_sorted_by_key(place), "{told:?}");
     assert!(told.iter().all(|fault| !fault.what.bytes().any(|byte| byte < b' ')), "{told:?}");
     answer.map_or(0, |(number, _)| number)
@@ -48,11 +48,11 @@ fn check_changed(file: &mut [u8; FILE_SIZE], base: &[u8; FILE_SIZE]) {
 #[test]
 fn areas_are_made_at_every_edge() {
     let mut met = std::collections::BTreeMap::new();
-    for plan in made::areas(1000) {
-        let Plan { gmax, b, d, segments, routes } = &plan;
+    for tables in made::areas(1000) {
+        let Tables { gmax, b, d, segments, routes } = &tables;
         let (way, top) = (braking_distance(*b, *gmax), u32::from(*gmax));
         let limit = |to: u8| segments[usize::from(to) - 1].limit;
-        let edge = |s: &rbu_command::plan::Segment| s.next.into_iter().any(|to| to != 0 && s.limit == limit(to) + b);
+        let edge = |s: &rbu_command::tables::Segment| s.next.into_iter().any(|to| to != 0 && s.limit == limit(to) + b);
         let reached = [
             ("one segment", segments.len() == 1),
             ("all segments", segments.len() == SEGMENTS),
@@ -176,7 +176,7 @@ fn changed(random: &mut Random, bases: &[[u8; FILE_SIZE]]) -> Vec<u8> {
 
 #[test]
 fn the_first_fault_of_a_changed_file_is_the_cores_answer() {
-    let bases: Vec<_> = made::areas(1000).iter().map(Plan::file).collect();
+    let bases: Vec<_> = made::areas(1000).iter().map(Tables::file).collect();
     let mut random = Random::new(1);
     let mut met = [0; 11];
     for _ in 0..500_000 {
@@ -232,7 +232,7 @@ fn any_bytes_are_explained() {
 #[test]
 fn planted_faults_are_told_and_nothing_else() {
     let (areas, mut random) = (made::areas(500), Random::new(3));
-    let files: Vec<_> = areas.iter().map(Plan::file).collect();
+    let files: Vec<_> = areas.iter().map(Tables::file).collect();
     let (mut met, mut together) = (PLANTERS.map(|_| 0), [0; 6]);
     for _ in 0..80_000 {
         let base = random.below(areas.len());
@@ -389,17 +389,17 @@ fn words_for_a_check() {
 
 /// A change of Area A and what is told of it, of a file and of a text, where they differ only in places.
 struct Case {
-    change: fn(&mut Plan),
+    change: fn(&mut Tables),
     of_file: &'static [&'static str],
     of_text: &'static [&'static str],
 }
 
 fn hold(cases: &[Case]) {
     for Case { change, of_file, of_text } in cases {
-        let mut plan = Plan::of_file(AREA_A);
-        change(&mut plan);
-        assert_eq!(told(&plan.file(), &Source::File), *of_file);
-        assert_eq!(told(&plan.file(), &text()), *of_text);
+        let mut tables = Tables::of_file(AREA_A);
+        change(&mut tables);
+        assert_eq!(told(&tables.file(), &Source::File), *of_file);
+        assert_eq!(told(&tables.file(), &text()), *of_text);
     }
 }
 
@@ -407,17 +407,17 @@ fn hold(cases: &[Case]) {
 fn words_for_the_header() {
     hold(&[
         Case {
-            change: |plan| plan.segments.clear(),
+            change: |tables| tables.segments.clear(),
             of_file: &["4 0: the number of segments is 0 (byte 1); it must be 1 to 62"],
             of_text: &["4 0: the number of segments is 0 (line 3); it must be 1 to 62"],
         },
         Case {
-            change: |plan| plan.routes.clear(),
+            change: |tables| tables.routes.clear(),
             of_file: &["4 0: the number of routes is 0 (byte 2); it must be 1 to 30"],
             of_text: &["4 0: the number of routes is 0 (line 3); it must be 1 to 30"],
         },
         Case {
-            change: |plan| plan.gmax = 0,
+            change: |tables| tables.gmax = 0,
             of_file: &[
                 "4 0: gmax, the top speed, is 0 (bytes 4-5); it must be 1 to 2000",
                 "4 0: b, the speed lost by one cycle of braking, is 10 (bytes 6-7); it must be 1 to gmax, which is 0",
@@ -434,16 +434,16 @@ fn words_for_the_header() {
             ],
         },
         Case {
-            change: |plan| {
-                (plan.gmax, plan.b) = (2001, 2001);
-                plan.segments.iter_mut().for_each(|segment| segment.length = 8000);
+            change: |tables| {
+                (tables.gmax, tables.b) = (2001, 2001);
+                tables.segments.iter_mut().for_each(|segment| segment.length = 8000);
             },
             of_file: &["4 0: gmax, the top speed, is 2001 (bytes 4-5); it must be 1 to 2000"],
             of_text: &["4 0: gmax, the top speed, is 2001 (line 3); it must be 1 to 2000"],
         },
         // S cannot be told with no braking; a drop of limits can
         Case {
-            change: |plan| (plan.b, plan.d) = (0, 1),
+            change: |tables| (tables.b, tables.d) = (0, 1),
             of_file: &[
                 "4 0: b, the speed lost by one cycle of braking, is 0 (bytes 6-7); it must be 1 to gmax, which is 300",
                 "9 1: segment 1: its limit is 300 (bytes 516-517), and its next, segment 3, has 290 (bytes 548-549): \
@@ -456,12 +456,12 @@ fn words_for_the_header() {
             ],
         },
         Case {
-            change: |plan| plan.b = 301,
+            change: |tables| tables.b = 301,
             of_file: &["4 0: b, the speed lost by one cycle of braking, is 301 (bytes 6-7); it must be 1 to gmax, which is 300"],
             of_text: &["4 0: b, the speed lost by one cycle of braking, is 301 (line 3); it must be 1 to gmax, which is 300"],
         },
         Case {
-            change: |plan| plan.d = 0,
+            change: |tables| tables.d = 0,
             of_file: &[
                 "4 0: d, the end distance, is 0 (bytes 8-11); it must be 1 to 4000000",
                 "5 0: d, the end distance, is 0 (bytes 8-11); it must be at least 4650: \
@@ -474,14 +474,14 @@ fn words_for_the_header() {
             ],
         },
         Case {
-            change: |plan| plan.d = 4649,
+            change: |tables| tables.d = 4649,
             of_file: &["5 0: d, the end distance, is 4649 (bytes 8-11); it must be at least 4650: \
                         a train at gmax = 300, braking by b = 10 a cycle, runs S(300) = 4650 until it stands"],
             of_text: &["5 0: d, the end distance, is 4649 (line 3); it must be at least 4650: \
                         a train at gmax = 300, braking by b = 10 a cycle, runs S(300) = 4650 until it stands"],
         },
         Case {
-            change: |plan| (plan.d, plan.segments[1].length, plan.segments[2].length) = (u32::MAX, 4000001, u32::MAX),
+            change: |tables| (tables.d, tables.segments[1].length, tables.segments[2].length) = (u32::MAX, 4000001, u32::MAX),
             of_file: &[
                 "4 0: d, the end distance, is 4294967295 (bytes 8-11); it must be 1 to 4000000",
                 "6 1: segment 1: its length is 6000 (bytes 512-515); \
@@ -512,24 +512,24 @@ fn words_for_the_header() {
 fn words_for_a_segment() {
     hold(&[
         Case {
-            change: |plan| plan.segments[0].length = 4950,
+            change: |tables| tables.segments[0].length = 4950,
             of_file: &["6 1: segment 1: its length is 4950 (bytes 512-515); it must be above d + gmax = 4650 + 300 = 4950"],
             of_text: &["6 1: segment 1: its length is 4950 (line 5); it must be above d + gmax = 4650 + 300 = 4950"],
         },
-        Case { change: |plan| plan.segments[0].length = 4951, of_file: &[], of_text: &[] },
+        Case { change: |tables| tables.segments[0].length = 4951, of_file: &[], of_text: &[] },
         Case {
-            change: |plan| plan.segments[1].length = 4000001,
+            change: |tables| tables.segments[1].length = 4000001,
             of_file: &["6 2: segment 2: its length is 4000001 (bytes 528-531); it must be at most 4000000"],
             of_text: &["6 2: segment 2: its length is 4000001 (line 6); it must be at most 4000000"],
         },
         // the greatest length and the least d that it is too short for
         Case {
-            change: |plan| {
-                plan.d = 3999700;
-                plan.segments.iter_mut().for_each(|segment| segment.length = 4000000);
-                plan.segments.truncate(1);
-                plan.segments[0].next = [0, 0];
-                plan.routes = vec![vec![1]];
+            change: |tables| {
+                tables.d = 3999700;
+                tables.segments.iter_mut().for_each(|segment| segment.length = 4000000);
+                tables.segments.truncate(1);
+                tables.segments[0].next = [0, 0];
+                tables.routes = vec![vec![1]];
             },
             of_file: &["6 1: segment 1: its length is 4000000 (bytes 512-515); \
                         it must be above d + gmax = 3999700 + 300 = 4000000, which none can be, since the most is 4000000"],
@@ -537,18 +537,18 @@ fn words_for_a_segment() {
                         it must be above d + gmax = 3999700 + 300 = 4000000, which none can be, since the most is 4000000"],
         },
         Case {
-            change: |plan| plan.segments[0].limit = 0,
+            change: |tables| tables.segments[0].limit = 0,
             of_file: &["6 1: segment 1: its limit is 0 (bytes 516-517); it must be 1 to gmax, which is 300"],
             of_text: &["6 1: segment 1: its limit is 0 (line 5); it must be 1 to gmax, which is 300"],
         },
         Case {
-            change: |plan| plan.segments[2].limit = 301,
+            change: |tables| tables.segments[2].limit = 301,
             of_file: &["6 3: segment 3: its limit is 301 (bytes 548-549); it must be 1 to gmax, which is 300"],
             of_text: &["6 3: segment 3: its limit is 301 (line 7); it must be 1 to gmax, which is 300"],
         },
         // a limit out of its bounds is still one that others drop to, or from
         Case {
-            change: |plan| (plan.segments[0].limit, plan.segments[2].limit) = (65535, 0),
+            change: |tables| (tables.segments[0].limit, tables.segments[2].limit) = (65535, 0),
             of_file: &[
                 "6 1: segment 1: its limit is 65535 (bytes 516-517); it must be 1 to gmax, which is 300",
                 "6 3: segment 3: its limit is 0 (bytes 548-549); it must be 1 to gmax, which is 300",
@@ -568,9 +568,9 @@ fn words_for_a_segment() {
         },
         // limits and b of which no sum with 16 bits is right
         Case {
-            change: |plan| {
-                plan.b = 65535;
-                plan.segments.iter_mut().for_each(|segment| segment.limit = 65535);
+            change: |tables| {
+                tables.b = 65535;
+                tables.segments.iter_mut().for_each(|segment| segment.limit = 65535);
             },
             of_file: &[
                 "4 0: b, the speed lost by one cycle of braking, is 65535 (bytes 6-7); it must be 1 to gmax, which is 300",
@@ -587,17 +587,17 @@ fn words_for_a_segment() {
         },
         // a link to no segment, and nothing of the link that matched it and of route 1
         Case {
-            change: |plan| plan.segments[0].next = [200, 0],
+            change: |tables| tables.segments[0].next = [200, 0],
             of_file: &["6 1: segment 1: its first next link is 200 (byte 518); it must be at most 3, the number of segments"],
             of_text: &["6 1: segment 1: its first next link is 200 (line 5); it must be at most 3, the number of segments"],
         },
         Case {
-            change: |plan| plan.segments[2].previous = [1, 4],
+            change: |tables| tables.segments[2].previous = [1, 4],
             of_file: &["6 3: segment 3: its second previous link is 4 (byte 553); it must be at most 3, the number of segments"],
             of_text: &["6 3: segment 3: its second previous link is 4 (line 7); it must be at most 3, the number of segments"],
         },
         Case {
-            change: |plan| (plan.segments[0].previous, plan.segments[2].next) = ([0, 4], [5, 5]),
+            change: |tables| (tables.segments[0].previous, tables.segments[2].next) = ([0, 4], [5, 5]),
             of_file: &[
                 "6 1: segment 1: its second previous link is 4 (byte 521); it must be at most 3, the number of segments",
                 "6 1: segment 1: its previous links are 0 and 4 (bytes 520-521); a single link must be the first",
@@ -612,17 +612,17 @@ fn words_for_a_segment() {
             ],
         },
         Case {
-            change: |plan| plan.segments[0].next = [0, 3],
+            change: |tables| tables.segments[0].next = [0, 3],
             of_file: &["6 1: segment 1: its next links are 0 and 3 (bytes 518-519); a single link must be the first"],
             of_text: &["6 1: segment 1: its next links are 0 and 3 (line 5); a single link must be the first"],
         },
         Case {
-            change: |plan| plan.segments[0].next = [3, 3],
+            change: |tables| tables.segments[0].next = [3, 3],
             of_file: &["6 1: segment 1: its next links are 3 and 3 (bytes 518-519); the second must be another one, or 0"],
             of_text: &["6 1: segment 1: its next links are 3 and 3 (line 5); the second must be another one, or 0"],
         },
         Case {
-            change: |plan| plan.segments[2].flags = 4,
+            change: |tables| tables.segments[2].flags = 4,
             of_file: &["6 3: segment 3: its flags are 4 (byte 554); they must be 0 to 3 (1 entry, 2 exit, 3 both)"],
             of_text: &["6 3: segment 3: its flags are 4 (line 7); they must be 0 to 3 (1 entry, 2 exit, 3 both)"],
         },
@@ -633,7 +633,7 @@ fn words_for_a_segment() {
 fn words_for_links() {
     hold(&[
         Case {
-            change: |plan| plan.segments[2].previous = [2, 0],
+            change: |tables| tables.segments[2].previous = [2, 0],
             of_file: &["7 1: segment 1: it has a next link to segment 3 (byte 518), \
                         and segment 3 has the previous link 2 (bytes 552-553), none to 1"],
             of_text: &[
@@ -641,7 +641,7 @@ fn words_for_links() {
             ],
         },
         Case {
-            change: |plan| plan.segments[2].previous = [2, 2],
+            change: |tables| tables.segments[2].previous = [2, 2],
             of_file: &[
                 "6 3: segment 3: its previous links are 2 and 2 (bytes 552-553); the second must be another one, or 0",
                 "7 1: segment 1: it has a next link to segment 3 (byte 518), \
@@ -654,7 +654,7 @@ fn words_for_links() {
             ],
         },
         Case {
-            change: |plan| plan.segments[2].previous = [0, 0],
+            change: |tables| tables.segments[2].previous = [0, 0],
             of_file: &[
                 "7 1: segment 1: it has a next link to segment 3 (byte 518), and segment 3 has no previous link (bytes 552-553)",
                 "7 2: segment 2: it has a next link to segment 3 (byte 534), and segment 3 has no previous link (bytes 552-553)",
@@ -665,7 +665,7 @@ fn words_for_links() {
             ],
         },
         Case {
-            change: |plan| plan.segments[1].next = [0, 0],
+            change: |tables| tables.segments[1].next = [0, 0],
             of_file: &[
                 "7 3: segment 3: it has a previous link to segment 2 (byte 553), and segment 2 has no next link (bytes 534-535)",
                 "10 2: route 2: at place 2 it goes on from segment 2 to segment 3 (byte 1570), \
@@ -677,13 +677,13 @@ fn words_for_links() {
             ],
         },
         Case {
-            change: |plan| (plan.segments[2].next, plan.segments[0].previous) = ([1, 0], [3, 0]),
+            change: |tables| (tables.segments[2].next, tables.segments[0].previous) = ([1, 0], [3, 0]),
             of_file: &["8 3: segment 3: it has a next link to segment 1 (byte 550); a next link must lead to a higher number"],
             of_text: &["8 3: segment 3: it has a next link to segment 1 (line 7); a next link must lead to a higher number"],
         },
         // a segment that leads to itself, with its match and without
         Case {
-            change: |plan| (plan.segments[2].next, plan.segments[0].previous) = ([3, 0], [1, 0]),
+            change: |tables| (tables.segments[2].next, tables.segments[0].previous) = ([3, 0], [1, 0]),
             of_file: &[
                 "7 1: segment 1: it has a previous link to segment 1 (byte 520), \
                  and segment 1 has the next link 3 (bytes 518-519), none to 1",
@@ -700,14 +700,14 @@ fn words_for_links() {
         },
         // limit_289
         Case {
-            change: |plan| plan.segments[2].limit = 289,
+            change: |tables| tables.segments[2].limit = 289,
             of_file: &["9 1: segment 1: its limit is 300 (bytes 516-517), and its next, segment 3, has 289 (bytes 548-549): \
                         11 less, and one cycle of braking takes b = 10"],
             of_text: &["9 1: segment 1: its limit is 300 (line 5), and its next, segment 3, has 289 (line 7): \
                         11 less, and one cycle of braking takes b = 10"],
         },
         Case {
-            change: |plan| plan.segments[2].limit = 1,
+            change: |tables| tables.segments[2].limit = 1,
             of_file: &[
                 "9 1: segment 1: its limit is 300 (bytes 516-517), and its next, segment 3, has 1 (bytes 548-549): \
                  299 less, and one cycle of braking takes b = 10",
@@ -728,13 +728,13 @@ fn words_for_links() {
 fn words_for_a_route() {
     hold(&[
         Case {
-            change: |plan| plan.routes[1].clear(),
+            change: |tables| tables.routes[1].clear(),
             of_file: &["10 2: route 2: the number of its segments is 0 (byte 1568); it must be 1 to 31"],
             of_text: &["10 2: route 2: the number of its segments is 0 (line 10); it must be 1 to 31"],
         },
         // of a place that lists no segment, nothing is said of the steps
         Case {
-            change: |plan| plan.routes = vec![vec![0, 3], vec![2, 4, 1]],
+            change: |tables| tables.routes = vec![vec![0, 3], vec![2, 4, 1]],
             of_file: &[
                 "10 1: route 1: at place 1 it lists 0 (byte 1537); it must be a segment, 1 to 3",
                 "10 2: route 2: at place 2 it lists 4 (byte 1570); it must be a segment, 1 to 3",
@@ -745,7 +745,7 @@ fn words_for_a_route() {
             ],
         },
         Case {
-            change: |plan| plan.routes = vec![vec![1, 2], vec![2, 3, 3]],
+            change: |tables| tables.routes = vec![vec![1, 2], vec![2, 3, 3]],
             of_file: &[
                 "10 1: route 1: at place 2 it goes on from segment 1 to segment 2 (byte 1538), \
                  and segment 1 has the next link 3 (bytes 518-519), none to 2",
@@ -759,9 +759,9 @@ fn words_for_a_route() {
             ],
         },
         Case {
-            change: |plan| {
-                (plan.segments[0].next, plan.segments[1].previous) = ([3, 2], [1, 0]);
-                plan.routes[0] = vec![1, 1];
+            change: |tables| {
+                (tables.segments[0].next, tables.segments[1].previous) = ([3, 2], [1, 0]);
+                tables.routes[0] = vec![1, 1];
             },
             of_file: &["10 1: route 1: at place 2 it goes on from segment 1 to segment 1 (byte 1538), \
                         and segment 1 has the next links 3 and 2 (bytes 518-519), none to 1"],
@@ -775,23 +775,23 @@ fn words_for_a_route() {
 
 #[test]
 fn words_for_warnings() {
-    let told = |change: fn(&mut Plan)| {
-        let mut plan = Plan::of_file(AREA_A);
-        change(&mut plan);
-        assert_eq!(rbu::load(&plan.file()), Ok(()));
-        [warnings(&plan, &Source::File), warnings(&plan, &text())]
+    let told = |change: fn(&mut Tables)| {
+        let mut tables = Tables::of_file(AREA_A);
+        change(&mut tables);
+        assert_eq!(rbu::load(&tables.file()), Ok(()));
+        [warnings(&tables, &Source::File), warnings(&tables, &text())]
     };
     let none: [Vec<String>; 2] = [vec![], vec![]];
     assert_eq!(told(|_| ()), none);
     assert_eq!(
-        told(|plan| plan.segments[1].flags = 0),
+        told(|tables| tables.segments[1].flags = 0),
         [
             ["route 2 (bytes 1568-1599) starts at segment 2, which is no entry: no train can enter on it"],
             ["route 2 (line 10) starts at segment 2, which is no entry: no train can enter on it"],
         ]
     );
     assert_eq!(
-        told(|plan| plan.segments.iter_mut().for_each(|segment| segment.flags = EXIT)),
+        told(|tables| tables.segments.iter_mut().for_each(|segment| segment.flags = EXIT)),
         [
             [
                 "no segment is an entry: no train can enter",
@@ -806,28 +806,28 @@ fn words_for_warnings() {
         ]
     );
     assert_eq!(
-        told(|plan| plan.routes[0].truncate(1)),
+        told(|tables| tables.routes[0].truncate(1)),
         [
             ["route 1 (bytes 1536-1567) ends at segment 1, which is no exit: no train can leave from it"],
             ["route 1 (line 9) ends at segment 1, which is no exit: no train can leave from it"],
         ]
     );
     assert_eq!(
-        told(|plan| plan.routes.truncate(1)),
+        told(|tables| tables.routes.truncate(1)),
         [
             ["segment 2 (bytes 528-543) is on no route: no train can run on it"],
             ["segment 2 (line 6) is on no route: no train can run on it"],
         ]
     );
     assert_eq!(
-        told(|plan| {
-            plan.segments[2].flags = ENTRY | EXIT;
-            plan.routes = vec![vec![3]];
+        told(|tables| {
+            tables.segments[2].flags = ENTRY | EXIT;
+            tables.routes = vec![vec![3]];
         }),
         [["segments 1, 2 are on no route: no train can run on them"]; 2]
     );
     assert_eq!(
-        told(|plan| plan.routes = vec![vec![1, 3], vec![2, 3], vec![1, 3], vec![1, 3]]),
+        told(|tables| tables.routes = vec![vec![1, 3], vec![2, 3], vec![1, 3], vec![1, 3]]),
         [
             [
                 "route 1 (bytes 1536-1567) and route 3 (bytes 1600-1631) list the same segments",
@@ -845,19 +845,19 @@ fn words_for_warnings() {
 #[test]
 fn warnings_of_areas() {
     let mut met = [0; 5];
-    for plan in made::areas(1000) {
-        let told = warnings(&plan, &Source::File);
+    for tables in made::areas(1000) {
+        let told = warnings(&tables, &Source::File);
         let count = |words: &str| told.iter().filter(|line| line.contains(words)).count();
-        let segment = |number: &u8| &plan.segments[usize::from(*number) - 1];
-        let routes = |holds: &dyn Fn(&Vec<u8>) -> bool| plan.routes.iter().filter(|route| holds(route)).count();
-        let listed: std::collections::BTreeSet<u8> = plan.routes.iter().flatten().copied().collect();
-        let different: std::collections::BTreeSet<&Vec<u8>> = plan.routes.iter().collect();
+        let segment = |number: &u8| &tables.segments[usize::from(*number) - 1];
+        let routes = |holds: &dyn Fn(&Vec<u8>) -> bool| tables.routes.iter().filter(|route| holds(route)).count();
+        let listed: std::collections::BTreeSet<u8> = tables.routes.iter().flatten().copied().collect();
+        let different: std::collections::BTreeSet<&Vec<u8>> = tables.routes.iter().collect();
         let expected = [
-            ("no segment is an entry", usize::from(plan.segments.iter().all(|segment| segment.flags & ENTRY == 0))),
+            ("no segment is an entry", usize::from(tables.segments.iter().all(|segment| segment.flags & ENTRY == 0))),
             ("starts at", routes(&|route| !segment(&route[0]).is_entry())),
             ("ends at", routes(&|route| !segment(&route[route.len() - 1]).is_exit())),
-            ("on no route", usize::from(listed.len() < plan.segments.len())),
-            ("list the same", plan.routes.len() - different.len()),
+            ("on no route", usize::from(listed.len() < tables.segments.len())),
+            ("list the same", tables.routes.len() - different.len()),
         ];
         for (times, (words, expected)) in met.iter_mut().zip(expected) {
             assert_eq!(count(words), expected, "{words}: {told:?}");

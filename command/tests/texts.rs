@@ -3,13 +3,13 @@ mod made;
 
 use made::Random;
 use rbu_command::layout::*;
-use rbu_command::plan::Plan;
 use rbu_command::show::spelt;
+use rbu_command::tables::Tables;
 use rbu_command::text::{read, written};
 
 const AREA_A: &[u8; 2560] = include_bytes!("../../crates/area_a/stdin");
 
-fn plan(text: &str) -> Plan {
+fn tables(text: &str) -> Tables {
     read(text.as_bytes()).unwrap().0
 }
 
@@ -25,7 +25,7 @@ fn accepted_areas_come_back(metres: bool) {
         let file = area.file();
         assert_eq!(spelt(&file).as_ref(), Ok(&area));
         let text = written(&area, metres);
-        assert_eq!(plan(&text).file(), file, "seed {seed}\n{text}");
+        assert_eq!(tables(&text).file(), file, "seed {seed}\n{text}");
         tenths += usize::from(text.contains('.'));
         let falling = |links: &[u8; 2]| links[1] != 0 && links[0] > links[1];
         to += usize::from(area.segments.iter().any(|segment| falling(&segment.next)));
@@ -65,12 +65,12 @@ fn refused_areas_come_back_or_are_named() {
         }
         match spelt(&file) {
             Ok(area) => {
-                assert_eq!(plan(&written(&area, random.one_in(2))).file(), file);
+                assert_eq!(tables(&written(&area, random.one_in(2))).file(), file);
                 back += usize::from(rbu::load(&file).is_err());
             }
             Err(wrong) => {
-                let text = written(&Plan::of_file(&file), false);
-                let spelt = plan(&text).file();
+                let text = written(&Tables::of_file(&file), false);
+                let spelt = tables(&text).file();
                 let first = (0..2560).find(|&at| spelt[at] != file[at]).unwrap();
                 assert_eq!(wrong, format!("byte {first} is {}, where a text has {}", file[first], spelt[first]));
                 named += 1;
@@ -102,7 +102,7 @@ fn files_that_no_text_spells() {
 /// Area A in columns, and in metres.
 #[test]
 fn area_a_in_columns() {
-    let area = Plan::of_file(AREA_A);
+    let area = Tables::of_file(AREA_A);
     let text = "area  gmax 300  b 10  d 4650
 
 segment 1  length 6000  limit 300  entry  to 3
@@ -120,7 +120,7 @@ route 2  2 3
 /// Words in any order, lines in any order, comments, lengths in both units, ends of lines of three kinds.
 #[test]
 fn the_same_area_otherwise_written() {
-    let area = Plan::of_file(AREA_A);
+    let area = Tables::of_file(AREA_A);
     for end in ["\n", "\r\n", "\r"] {
         let text = "\u{feff}route 2 2 3 # the second
             segment 3 exit limit 290 length 800m
@@ -130,7 +130,7 @@ fn the_same_area_otherwise_written() {
             segment 1 to 3 entry length 600.0 m limit 300#
             area d 465 m b 10 gmax 300
             segment 2 from none limit 290 to 3 0 length 5500 entry";
-        assert_eq!(plan(&text.replace('\n', end)), area, "{end:?}");
+        assert_eq!(tables(&text.replace('\n', end)), area, "{end:?}");
     }
     let (_, lines) = read(b"\narea gmax 1 b 1 d 1\nroute 1 1\n\nsegment 2 length 1 limit 1\nsegment 1 length 1 limit 1").unwrap();
     assert_eq!((lines.area, lines.segments, lines.routes), (2, vec![6, 5], vec![3]));
@@ -154,16 +154,16 @@ fn what_the_core_refuses() {
         ("", (4, 0)),
     ] {
         let text = format!("area gmax 300 b 10 d 4650\n{more}");
-        let file = plan(&text).file();
+        let file = tables(&text).file();
         let refusal = rbu::load(&file).unwrap_err();
         assert_eq!((refusal.number, refusal.place), answer, "{more}");
-        assert_eq!(plan(&written(&spelt(&file).unwrap(), true)).file(), file, "{more}");
+        assert_eq!(tables(&written(&spelt(&file).unwrap(), true)).file(), file, "{more}");
     }
 }
 
 #[test]
 fn lengths() {
-    let length = |text: &str| read(format!("area gmax 1 b 1 d {text}").as_bytes()).map(|(plan, _)| plan.d);
+    let length = |text: &str| read(format!("area gmax 1 b 1 d {text}").as_bytes()).map(|(tables, _)| tables.d);
     for (text, right) in [
         ("0", 0),
         ("6005", 6005),

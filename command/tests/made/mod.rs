@@ -8,7 +8,7 @@
 
 use rbu::{braking_distance, FASTEST, LONGEST, ROUTES, SEGMENTS};
 use rbu_command::layout::ROUTE_SEGMENTS;
-use rbu_command::plan::{Plan, Segment};
+use rbu_command::tables::{Segment, Tables};
 
 /// Random numbers (splitmix64).
 pub struct Random(u64);
@@ -54,7 +54,7 @@ impl Random {
 }
 
 /// The area of a seed.
-pub fn area(seed: u64) -> Plan {
+pub fn area(seed: u64) -> Tables {
     let random = &mut Random::new(seed);
     let most = SEGMENTS as u32;
     let (n, r) = (random.edgy(1, most), random.edgy(1, ROUTES as u32));
@@ -68,13 +68,13 @@ pub fn area(seed: u64) -> Plan {
         segments[s].flags = random.below(4) as u8;
     }
     let routes = (0..r).map(|_| walk(random, &segments)).collect();
-    let plan = Plan { gmax, b, d, segments, routes };
-    assert_eq!(rbu::load(&plan.file()), Ok(()), "seed {seed}: {plan:?}");
-    plan
+    let tables = Tables { gmax, b, d, segments, routes };
+    assert_eq!(rbu::load(&tables.file()), Ok(()), "seed {seed}: {tables:?}");
+    tables
 }
 
 /// Areas of some seeds.
-pub fn areas(count: u64) -> Vec<Plan> {
+pub fn areas(count: u64) -> Vec<Tables> {
     (0..count).map(area).collect()
 }
 

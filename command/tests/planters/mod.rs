@@ -4,7 +4,7 @@
 use crate::made::Random;
 use rbu::{braking_distance, FASTEST, FILE_SIZE, LONGEST, ROUTES, SEGMENTS};
 use rbu_command::layout::*;
-use rbu_command::plan::Plan;
+use rbu_command::tables::Tables;
 use std::ops::Range;
 
 /// Numbers and places.
@@ -16,7 +16,7 @@ pub type Planter = fn(&mut Bed) -> Option<Told>;
 pub struct Bed<'a> {
     pub random: &'a mut Random,
     /// the area as it was
-    pub plan: &'a Plan,
+    pub tables: &'a Tables,
     pub file: [u8; FILE_SIZE],
     taken: Vec<(&'static str, usize)>,
     /// blocks that are to have a wrong check in the end
@@ -25,8 +25,8 @@ pub struct Bed<'a> {
 }
 
 impl<'a> Bed<'a> {
-    pub fn new(random: &'a mut Random, plan: &'a Plan, file: &[u8; FILE_SIZE]) -> Bed<'a> {
-        Bed { random, plan, file: *file, taken: vec![], unchecked: vec![], told: vec![] }
+    pub fn new(random: &'a mut Random, tables: &'a Tables, file: &[u8; FILE_SIZE]) -> Bed<'a> {
+        Bed { random, tables, file: *file, taken: vec![], unchecked: vec![], told: vec![] }
     }
 
     /// Whether the planter found a place.
@@ -68,7 +68,7 @@ impl<'a> Bed<'a> {
     }
 
     fn neighbours(&self, s: usize) -> Vec<usize> {
-        let segment = self.plan.segments[s - 1];
+        let segment = self.tables.segments[s - 1];
         segment.next.into_iter().chain(segment.previous).filter(|&link| link != 0).map(usize::from).collect()
     }
 
@@ -99,7 +99,7 @@ impl<'a> Bed<'a> {
 
     /// A free route that fits, which is taken.
     fn route(&mut self, fits: impl Fn(&[u8]) -> bool) -> Option<usize> {
-        let fitting: Vec<usize> = (1..=self.r()).filter(|&r| self.is_free("route", r) && fits(&self.plan.routes[r - 1])).collect();
+        let fitting: Vec<usize> = (1..=self.r()).filter(|&r| self.is_free("route", r) && fits(&self.tables.routes[r - 1])).collect();
         let r = self.pick(&fitting)?;
         self.take("route", r)
     }
@@ -111,11 +111,11 @@ impl<'a> Bed<'a> {
     // ---- what stands there
 
     fn n(&self) -> usize {
-        self.plan.segments.len()
+        self.tables.segments.len()
     }
 
     fn r(&self) -> usize {
-        self.plan.routes.len()
+        self.tables.routes.len()
     }
 
     fn gmax(&self) -> u16 {
@@ -131,15 +131,15 @@ impl<'a> Bed<'a> {
     }
 
     fn limit(&self, s: usize) -> u16 {
-        self.plan.segments[s - 1].limit
+        self.tables.segments[s - 1].limit
     }
 
     fn next(&self, s: usize) -> [u8; 2] {
-        self.plan.segments[s - 1].next
+        self.tables.segments[s - 1].next
     }
 
     fn previous(&self, s: usize) -> [u8; 2] {
-        self.plan.segments[s - 1].previous
+        self.tables.segments[s - 1].previous
     }
 
     fn links(&self, s: usize, at: usize) -> [u8; 2] {
@@ -157,7 +157,7 @@ impl<'a> Bed<'a> {
 
     /// Some route goes from one segment to the other.
     fn is_gone(&self, s: usize, t: usize) -> bool {
-        self.plan.routes.iter().any(|route| route.windows(2).any(|step| step == [s as u8, t as u8]))
+        self.tables.routes.iter().any(|route| route.windows(2).any(|step| step == [s as u8, t as u8]))
     }
 
     // ---- changes
@@ -388,30 +388,30 @@ pub const PLANTERS: [(&str, Planter); 66] = [
     }),
     ("place 0", |bed| {
         let r = bed.route(|_| true)?;
-        let place = 1 + bed.random.below(bed.plan.routes[r - 1].len());
+        let place = 1 + bed.random.below(bed.tables.routes[r - 1].len());
         bed.file[route_at(r) + place] = 0;
         Some(vec![(10, r as u16)])
     }),
     ("place above N", |bed| {
         let r = bed.route(|_| true)?;
-        let place = 1 + bed.random.below(bed.plan.routes[r - 1].len());
+        let place = 1 + bed.random.below(bed.tables.routes[r - 1].len());
         bed.file[route_at(r) + place] = bed.over(bed.n());
         Some(vec![(10, r as u16)])
     }),
     ("places above N, side by side", |bed| {
         let r = bed.route(|route| route.len() > 1)?;
-        let place = 1 + bed.random.below(bed.plan.routes[r - 1].len() - 1);
+        let place = 1 + bed.random.below(bed.tables.routes[r - 1].len() - 1);
         let listed = [bed.over(bed.n()), bed.over(bed.n())];
         bed.put(route_at(r) + place, &listed);
         Some(vec![(10, r as u16); 2])
     }),
     ("step to the last place", |bed| {
         let r = bed.route(|route| route.len() > 1)?;
-        another_place(bed, r, bed.plan.routes[r - 1].len())
+        another_place(bed, r, bed.tables.routes[r - 1].len())
     }),
     ("step to or from another place", |bed| {
         let r = bed.route(|route| route.len() > 1)?;
-        let place = 1 + bed.random.below(bed.plan.routes[r - 1].len() - 1);
+        let place = 1 + bed.random.below(bed.tables.routes[r - 1].len() - 1);
         another_place(bed, r, place)
     }),
     ("zeros of a route", |bed| route_zeros(bed, false)),
@@ -461,7 +461,7 @@ fn gmax_0(bed: &mut Bed) -> Option<Told> {
 fn gmax_over(bed: &mut Bed) -> Option<Told> {
     bed.take("numbers", 0)?;
     let gmax = bed.random.edgy(u32::from(FASTEST) + 1, u16::MAX.into());
-    let shortest = bed.plan.segments.iter().map(|segment| segment.length).min()?;
+    let shortest = bed.tables.segments.iter().map(|segment| segment.length).min()?;
     let (least, most) = (braking_distance(bed.b(), gmax as u16), shortest.checked_sub(gmax + 1)?);
     let d = if least > most { None } else { Some(bed.random.edgy(least, most)) }?;
     bed.put(GMAX_AT, &(gmax as u16).to_le_bytes());
@@ -546,9 +546,9 @@ fn zeros_above_n(bed: &mut Bed, two: bool) -> Option<Told> {
 
 /// Another segment at a place of a route. What the steps read is not taken, so that it is as in the area.
 fn another_place(bed: &mut Bed, r: usize, place: usize) -> Option<Told> {
-    let (plan, at) = (bed.plan, route_at(r));
-    let route = &plan.routes[r - 1];
-    let broken = |steps: &[u8]| steps.windows(2).filter(|step| !plan.segments[usize::from(step[0]) - 1].next.contains(&step[1])).count();
+    let (tables, at) = (bed.tables, route_at(r));
+    let route = &tables.routes[r - 1];
+    let broken = |steps: &[u8]| steps.windows(2).filter(|step| !tables.segments[usize::from(step[0]) - 1].next.contains(&step[1])).count();
     let changed = |here: u8| {
         let mut steps = route.clone();
         steps[place - 1] = here;
@@ -569,7 +569,7 @@ fn another_place(bed: &mut Bed, r: usize, place: usize) -> Option<Told> {
 fn route_zeros(bed: &mut Bed, two: bool) -> Option<Told> {
     let r = bed.route(|route| route.len() + 3 <= ROUTE_SEGMENTS || (!two && route.len() < ROUTE_SEGMENTS))?;
     let at = route_at(r);
-    bed.runs(at + 1 + bed.plan.routes[r - 1].len()..at + ROUTE_SIZE, 10, r, two)
+    bed.runs(at + 1 + bed.tables.routes[r - 1].len()..at + ROUTE_SIZE, 10, r, two)
 }
 
 fn zeros_above_r(bed: &mut Bed, two: bool) -> Option<Told> {

@@ -3,7 +3,7 @@ use crate::layout::*;
 use rbu::{FILE_SIZE, ROUTES, SEGMENTS};
 
 #[derive(Clone, PartialEq, Eq, Debug, Default)]
-pub struct Plan {
+pub struct Tables {
     pub gmax: u16,
     pub b: u16,
     pub d: u32,
@@ -32,10 +32,10 @@ impl Segment {
     }
 }
 
-impl Plan {
+impl Tables {
     /// What a file of the right size spells, whatever stands in it: of more segments, routes or places than there is room for, those
     /// that there is room for.
-    pub fn of_file(file: &[u8; FILE_SIZE]) -> Plan {
+    pub fn of_file(file: &[u8; FILE_SIZE]) -> Tables {
         let segment = |number| {
             let at = segment_at(number);
             Segment {
@@ -50,7 +50,7 @@ impl Plan {
             let at = route_at(number);
             file[at + 1..][..usize::from(file[at]).min(ROUTE_SEGMENTS)].to_vec()
         };
-        Plan {
+        Tables {
             gmax: u16_at(file, GMAX_AT),
             b: u16_at(file, B_AT),
             d: u32_at(file, D_AT),
