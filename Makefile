@@ -24,7 +24,7 @@ static: core
 	@RUSTFLAGS="-C target-feature=+crt-static" cargo build $(release) --target-dir target/cargo/static
 	@bash scripts/place target/cargo/static/release/rbu target/rbu-static
 
-install: built
+install:
 	@bash scripts/install "$(DESTDIR)$(PREFIX)"
 
 clean:

@@ -140,8 +140,9 @@ _Static_assert(sizeof(struct rbu_area) == RBU_AREA_SIZE && _Alignof(struct rbu_a
 #endif
 
 // Loads a file into the record. Returns the number of load's answer: RBU_ANSWER_DONE, or 1 to 10, the rule that the file breaks. The
-// place goes to *place: the block, record, segment or route that breaks it first, as docs/FORMATS.md has it, otherwise 0. A refused file leaves the blank record, on which every call answers RBU_ANSWER_UNSOUND. What the record
-// held before plays no part: any bytes will do.
+// place goes to *place: the block, record, segment or route that breaks it first, as docs/FORMATS.md has it, otherwise 0. A refused
+// file leaves the blank record, on which every call answers RBU_ANSWER_UNSOUND. What the record held before plays no part: any bytes
+// will do.
 uint8_t rbu_start(struct rbu_area *area, const uint8_t *file, size_t file_length, uint16_t *place);
 
 // The six calls. Each returns the number of its answer; a refused one leaves the record as it was. Arguments are tested whole: train

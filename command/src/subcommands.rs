@@ -11,13 +11,14 @@ struct Subcommand {
     form: Form,
     /// in a few words
     does: &'static str,
-    /// in full
+    /// in full, and what its inputs look like
     tells: &'static str,
+    inputs: &'static [&'static str],
     example: &'static str,
     run: fn(&Given) -> Result<Status, Failure>,
 }
 
-const TABLE: [Subcommand; 5] = [
+const TABLE: &[Subcommand] = &[
     Subcommand {
         name: "check",
         form: Form {
@@ -32,6 +33,7 @@ const TABLE: [Subcommand; 5] = [
         },
         does: "say whether the core takes an area, and why not",
         tells: "Prints NAME: NUMBER PLACE WORD for each area, the core's answer; below a refused\none, what is wrong, its value, its bound, and where it stands. The status is 1 where\none is refused.",
+        inputs: &[AREAS, TEXT],
         example: "printf 'area gmax 300 b 10 d 4650\\nsegment 1 length 600 m limit 300 entry exit\\nroute 1 1\\n' | rbu check -",
         run: check::run,
     },
@@ -48,6 +50,7 @@ const TABLE: [Subcommand; 5] = [
         },
         does: "write an area as text",
         tells: "The text has a line for the area and for each segment and route. Of a refused area\nthe core's answer is its first line, a comment, and the status is 1.",
+        inputs: &[AREAS, TEXT],
         example: "printf 'area gmax 300 b 10 d 4650\\nsegment 1 length 6000 limit 300 entry exit\\nroute 1 1\\n' | rbu show --metres -",
         run: show::run,
     },
@@ -64,6 +67,7 @@ const TABLE: [Subcommand; 5] = [
         },
         does: "make the area file of 2,560 bytes from a text",
         tells: "The bytes are those that the core itself writes of the area. Of a refused text the\ncore's answer and every fault are told, nothing is written, and the status is 1.",
+        inputs: &[TEXT],
         example: "printf 'area gmax 300 b 10 d 4650\\nsegment 1 length 600 m limit 300 entry exit\\nroute 1 1\\n' | rbu make - -o siding.area.bin",
         run: make::run,
     },
@@ -80,6 +84,7 @@ const TABLE: [Subcommand; 5] = [
         },
         does: "run the calls of a scenario on an area",
         tells: "Prints the answer to each line of the scenario, how much was run, and where every\ntrain stands at the end. Where no area is named, Area A is taken.",
+        inputs: &[AREAS, SCENARIO],
         example: "printf 'enter 1 1 250 1\\nenter 2 2 200 1\\ncycle 300 x6\\n' | rbu run -",
         run: run::run,
     },
@@ -93,13 +98,30 @@ const TABLE: [Subcommand; 5] = [
         },
         does: "write the calls of a scenario as bytes, for firmware and C",
         tells: "A call has 64 bytes.",
+        inputs: &[SCENARIO],
         example: "printf 'enter 1 1 250 1\\ncycle 300 x6\\n' | rbu script - -o six_cycles.script",
         run: script::run,
     },
 ];
 
-const AREAS: &str = "An AREA is a file of 2,560 bytes, or its text. - is standard input or output.\n";
-const STATUSES: &str = "Status: 0 done, 1 refused by the core, 2 could not be run.\n";
+const AREAS: &str = "An AREA is a file of 2,560 bytes, or its text.\n";
+const STATUSES: &str = "- is standard input or output. Status: 0 done, 1 refused by the core, 2 could not be run.\n";
+const TEXT: &str = "\
+The lines of an area's text; # starts a comment:
+    area gmax G b B d D           top speed, speed lost by a cycle of braking, end distance
+    segment N length L limit V    and where it is so: entry, exit, to A, to A B
+    route N A B C ..              its segments
+Lengths are decimetres, or metres as 600 m; speeds are decimetres per cycle.
+";
+const SCENARIO: &str = "\
+The lines of a scenario; # starts a comment:
+    area NAME                            the area that it runs on, before the first call
+    enter TRAIN ROUTE SPEED [LENGTH]     a length in decimetres; 1 where there is none
+    leave TRAIN
+    cycle WISH [TRAIN=WISH ..] [xTIMES]  speed, request, grant, position; x20: twenty times
+    speed WISH [TRAIN=WISH ..]           the speed that trains are to have, if they may
+    request, grant, position
+";
 
 /// Runs what the words ask for.
 pub fn run(words: &[OsString]) -> Result<Status, Failure> {
@@ -130,7 +152,7 @@ fn told(text: &str) -> Result<Status, Failure> {
 }
 
 fn found(name: &OsString) -> Result<&'static Subcommand, Failure> {
-    let names = TABLE.each_ref().map(|subcommand| subcommand.name);
+    let names: Vec<&str> = TABLE.iter().map(|subcommand| subcommand.name).collect();
     let wrong = || format!("there is no '{}'; there are {} (rbu help)", name.to_string_lossy().escape_debug(), listed(&names, "and"));
     TABLE.iter().find(|subcommand| name == subcommand.name).ok_or_else(|| Failure::Because(wrong()))
 }
@@ -144,14 +166,9 @@ impl Subcommand {
         let wide = self.form.options.iter().map(|option| option.usage().len()).max().unwrap_or(0);
         let option = |option: &Opt| format!("    {:wide$}  {}\n", option.usage(), option.what);
         let options: String = self.form.options.iter().map(option).collect();
-        format!(
-            "{}\n\n{}: {}.\n\n{}\n\n{options}\n{AREAS}{STATUSES}\nExample:\n    {}\n",
-            self.usage(),
-            self.name,
-            self.does,
-            self.tells,
-            self.example
-        )
+        let inputs: String = self.inputs.iter().map(|input| format!("{input}\n")).collect();
+        let head = format!("{}\n\n{}: {}.\n\n{}\n", self.usage(), self.name, self.does, self.tells);
+        format!("{head}\n{options}\n{inputs}{STATUSES}\nExample:\n    {}\n", self.example)
     }
 }
 
@@ -159,10 +176,10 @@ fn overview() -> String {
     let wide = TABLE.iter().map(|subcommand| subcommand.usage().len()).max().unwrap_or(0);
     let row = |subcommand: &Subcommand| format!("    {:wide$}  {}\n", subcommand.usage(), subcommand.does);
     let rows: String = TABLE.iter().map(row).collect();
-    let [.., run, _] = &TABLE;
+    let example = TABLE.iter().find(|subcommand| subcommand.name == "run").map_or("", |subcommand| subcommand.example);
     format!(
         "rbu: areas and runs of a radio block unit, by its proved core\n\n{rows}    {:wide$}  how to use a subcommand, with an example\n    {:wide$}  the version, and which core is linked in\n\n{AREAS}{STATUSES}\nExample:\n    {}\n",
-        "rbu help [SUBCOMMAND]", "rbu --version", run.example
+        "rbu help [SUBCOMMAND]", "rbu --version", example
     )
 }
 
