@@ -6,7 +6,7 @@ use crate::scenario::{Call, Line, Scenario};
 use crate::script;
 use crate::streams::{is_standard, print, say, Failure, Status};
 use rbu::{Area, Refusal, SEGMENTS};
-use std::ffi::OsStr;
+use std::ffi::{OsStr, OsString};
 use std::fmt::Write;
 use std::path::{Path, PathBuf};
 
@@ -36,10 +36,10 @@ pub fn run(given: &Given) -> Result<Status, Failure> {
 }
 
 /// The area that is named after the scenario, or by it, or Area A.
-fn area_of(named: Option<&std::ffi::OsString>, scenario: &OsStr, read: &Scenario) -> Result<AreaFile, String> {
+fn area_of(named: Option<&OsString>, scenario: &OsStr, read: &Scenario) -> Result<AreaFile, String> {
     match (named, &read.area) {
         (Some(named), _) => AreaFile::read(named),
-        (None, Some(named)) => AreaFile::read(folder_of(scenario).join(named).as_os_str()),
+        (None, Some(named)) => AreaFile::read(named_by(scenario, named).as_os_str()),
         (None, None) => {
             say("rbu: no area is named, and Area A is taken");
             Ok(AreaFile::area_a())
@@ -47,11 +47,16 @@ fn area_of(named: Option<&std::ffi::OsString>, scenario: &OsStr, read: &Scenario
     }
 }
 
-/// The folder that a scenario's names start from: its own, and where it comes from a pipe the working one.
-fn folder_of(scenario: &OsStr) -> PathBuf {
+/// The area that a scenario names: seen from the scenario's own folder, and where that comes from standard input or a pipe from the
+/// working one. It is always a file: `-` is one of that name.
+fn named_by(scenario: &OsStr, area: &str) -> PathBuf {
     let path = Path::new(scenario);
-    let own = path.parent().filter(|folder| !is_standard(scenario) && path.is_file() && !folder.as_os_str().is_empty());
-    own.unwrap_or(Path::new(".")).to_path_buf()
+    let folder = path.parent().filter(|folder| !is_standard(scenario) && path.is_file() && !folder.as_os_str().is_empty());
+    match folder {
+        Some(folder) => folder.join(area),
+        None if is_standard(OsStr::new(area)) => Path::new(".").join(area),
+        None => area.into(),
+    }
 }
 
 // ---- the run

@@ -480,6 +480,19 @@ fn words_for_the_header() {
             of_text: &["5 0: d, the end distance, is 4649 (line 3); it must be at least 4650: \
                         a train at gmax = 300, braking by b = 10 a cycle, runs S(300) = 4650 until it stands"],
         },
+        // the greatest d is within its bounds, and leaves no length
+        Case {
+            change: |tables| {
+                tables.d = 4000000;
+                tables.segments.truncate(1);
+                tables.segments[0].next = [0, 0];
+                tables.routes = vec![vec![1]];
+            },
+            of_file: &["6 1: segment 1: its length is 6000 (bytes 512-515); \
+                        it must be above d + gmax = 4000000 + 300 = 4000300, which none can be, since the most is 4000000"],
+            of_text: &["6 1: segment 1: its length is 6000 (line 5); \
+                        it must be above d + gmax = 4000000 + 300 = 4000300, which none can be, since the most is 4000000"],
+        },
         Case {
             change: |tables| (tables.d, tables.segments[1].length, tables.segments[2].length) = (u32::MAX, 4000001, u32::MAX),
             of_file: &[
