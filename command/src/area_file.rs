@@ -1,6 +1,6 @@
 //! An area as it is named: a file of bytes or a text, told apart by what stands in it.
 use crate::faults::Source;
-use crate::lines::{is_control, wide_encoding, MOST_TEXT};
+use crate::lines::{is_control, wide_encoding, wide_text, MOST_TEXT};
 use crate::streams::{shown, Input};
 use crate::text;
 use rbu::FILE_SIZE;
@@ -33,7 +33,7 @@ impl AreaFile {
         let named = |wrong| format!("{name}: {wrong}");
         let bytes = input.bytes;
         if !is_text(&bytes) {
-            if let Some(encoding) = wide_text(&bytes) {
+            if let Some(encoding) = wide_encoding_of(&bytes) {
                 return Err(named(format!("the text is in {encoding}; save it as plain text, in UTF-8")));
             }
             return Ok(AreaFile { name, bytes, source: Source::File });
@@ -46,27 +46,30 @@ impl AreaFile {
 /// A text is known by its first word, and so is one with a byte that no text has; or by having no such byte, so that a misspelt first
 /// word is named. An empty file is a file of another size.
 fn is_text(bytes: &[u8]) -> bool {
-    is_keyword(first_word(bytes)) || (!bytes.is_empty() && std::str::from_utf8(bytes).is_ok_and(is_plain))
+    let is_cut = bytes.len() > MOST_TEXT;
+    is_keyword(first_word(bytes)) || (!bytes.is_empty() && is_plain(bytes, is_cut))
 }
 
 /// Of the beginning of a file: whether what follows can still make it a text.
 fn may_become_text(bytes: &[u8]) -> bool {
     let first = first_word(bytes);
-    let valid = match std::str::from_utf8(bytes) {
-        Ok(text) => Some(text),
-        // a character may be cut off at the end
-        Err(wrong) if wrong.error_len().is_none() => std::str::from_utf8(&bytes[..wrong.valid_up_to()]).ok(),
-        Err(_) => None,
-    };
-    first.is_empty() || is_keyword(first) || valid.is_some_and(is_plain)
+    let goes_on = bytes.ends_with(first) && KEYWORDS.iter().any(|word| word.starts_with(first));
+    goes_on || is_keyword(first) || is_plain(bytes, true)
 }
 
-fn is_plain(text: &str) -> bool {
-    !text.contains(is_control)
-}
+const KEYWORDS: [&[u8]; 3] = [b"area", b"segment", b"route"];
 
 fn is_keyword(word: &[u8]) -> bool {
-    matches!(word, b"area" | b"segment" | b"route")
+    KEYWORDS.contains(&word)
+}
+
+/// UTF-8 with no control character but tabs and ends of lines; where it is cut off, its last character may be too.
+fn is_plain(bytes: &[u8], is_cut: bool) -> bool {
+    let text = match std::str::from_utf8(bytes) {
+        Err(wrong) if is_cut && wrong.error_len().is_none() => std::str::from_utf8(&bytes[..wrong.valid_up_to()]),
+        other => other,
+    };
+    text.is_ok_and(|text| !text.contains(is_control))
 }
 
 /// The first word outside comments; an empty one where there is none.
@@ -82,30 +85,25 @@ fn first_word(bytes: &[u8]) -> &[u8] {
     }
 }
 
-/// The encoding of a text in characters of two or four bytes. An area file may begin as such a text does: so all of it has to be one.
-fn wide_text(bytes: &[u8]) -> Option<&'static str> {
+/// The encoding of a text in characters of two or four bytes. An area file may begin with the mark of one: so all of it has to be such a
+/// text.
+fn wide_encoding_of(bytes: &[u8]) -> Option<&'static str> {
     let encoding = wide_encoding(bytes)?;
-    let low_first = match bytes {
-        [0xff, 0xfe, ..] => true,
-        [0xfe, 0xff, ..] | [0, ..] => false,
-        _ => true,
-    };
-    let unit = |bytes: &[u8]| {
-        let shifted = |(at, byte): (usize, &u8)| u32::from(*byte) << (8 * if low_first { at } else { bytes.len() - 1 - at });
-        bytes.iter().enumerate().map(shifted).sum::<u32>()
-    };
-    let text: Option<String> = match encoding {
-        "UTF-32" => bytes.chunks_exact(4).map(|bytes| char::from_u32(unit(bytes))).collect(),
-        _ => char::decode_utf16(bytes.chunks_exact(2).map(|bytes| unit(bytes) as u16)).map(Result::ok).collect(),
-    };
-    text.is_some_and(|text| is_plain(&text)).then_some(encoding)
+    let size = if encoding == "UTF-32" { 4 } else { 2 };
+    let is_such = |low_first| wide_text(bytes, size, low_first).is_some_and(|text| !text.contains(is_control));
+    (is_such(true) || is_such(false)).then_some(encoding)
 }
 
-/// What is wrong with a text that is to be made into a file, where it is no text at all.
+/// Why a file that is to be made is no text: its first byte that stands in none.
 pub fn no_text(bytes: &[u8]) -> String {
-    match bytes.iter().position(|&byte| is_control(char::from(byte))) {
-        Some(at) => format!("it is no text of an area: byte {at} is {}", bytes[at]),
-        None => "it is no text of an area".into(),
+    let (valid, after) = match std::str::from_utf8(bytes) {
+        Ok(text) => (text, None),
+        Err(wrong) => (std::str::from_utf8(&bytes[..wrong.valid_up_to()]).unwrap_or(""), Some((wrong.valid_up_to(), "which is no UTF-8"))),
+    };
+    let control = valid.char_indices().find(|(_, c)| is_control(*c)).map(|(at, _)| (at, "a control character"));
+    match control.or(after) {
+        Some((at, why)) => format!("it is no text of an area: byte {at} is {}, {why}", bytes[at]),
+        None => "it is no text of an area: it is empty".into(),
     }
 }
 
@@ -136,10 +134,10 @@ mod tests {
 
     #[test]
     fn the_beginning_of_a_text() {
-        for bytes in [&b"area"[..], b"# caf\xe9", b"# a\xc3", b"x y z", b""] {
+        for bytes in [&b"area"[..], b"# caf\xe9", b"# a\xc3", b"x y z", b"", b"# caf\xe9\nare", b"# caf\xe9\rr"] {
             assert!(may_become_text(bytes), "{bytes:?}");
         }
-        for bytes in [&[0; 3][..], AREA_A, b"xyz\xe9 "] {
+        for bytes in [&[0; 3][..], AREA_A, b"xyz\xe9 ", b"# caf\xe9\nare ", b"# caf\xe9\naer"] {
             assert!(!may_become_text(bytes), "{bytes:?}");
         }
     }
@@ -149,16 +147,37 @@ mod tests {
         let wide = |text: &str, low_first: bool| -> Vec<u8> {
             text.encode_utf16().flat_map(|unit| if low_first { unit.to_le_bytes() } else { unit.to_be_bytes() }).collect()
         };
-        for text in ["area gmax 300\r\n", "\u{feff}area", "\u{feff}Übersicht\n"] {
-            assert_eq!((wide_text(&wide(text, true)), wide_text(&wide(text, false))), (Some("UTF-16"), Some("UTF-16")), "{text}");
+        for text in ["area gmax 300\r\n", "\u{feff}area", "\u{feff}Übersicht\n", "# ── Area A ──\narea gmax 300 b 10 d 4650\n"] {
+            for low_first in [true, false] {
+                assert_eq!(wide_encoding_of(&wide(text, low_first)), Some("UTF-16"), "{text}");
+            }
         }
+        let cut = wide("# train 🚂", true);
+        assert_eq!(wide_encoding_of(&cut[..cut.len() - 2]), Some("UTF-16"));
         let wider: Vec<u8> = "area".chars().flat_map(|c| u32::from(c).to_le_bytes()).collect();
-        assert_eq!(wide_text(&wider), Some("UTF-32"));
+        assert_eq!(wide_encoding_of(&wider), Some("UTF-32"));
         // an area file, one without segments and routes, and one whose first bytes are a mark
         let mut marked = *AREA_A;
         (marked[0], marked[1]) = (0xff, 0xfe);
         let mut none = [0; FILE_SIZE];
         none[0] = 1;
-        assert_eq!([wide_text(AREA_A), wide_text(&marked), wide_text(&none)], [None; 3]);
+        assert_eq!([wide_encoding_of(AREA_A), wide_encoding_of(&marked), wide_encoding_of(&none)], [None; 3]);
+    }
+
+    #[test]
+    fn texts_that_are_cut_off() {
+        let long = |text: &str| text.bytes().cycle().take(MOST_TEXT + 1).collect::<Vec<u8>>();
+        // é has two bytes, and the first of them is the last that was read
+        assert!(is_text(&long("éé\n")) && !is_plain(&long("éé\n"), false));
+        assert!(!is_text("a\u{1}".as_bytes()) && !is_text(b"caf\xc3"));
+    }
+
+    #[test]
+    fn why_it_is_no_text() {
+        let says = |bytes: &[u8]| no_text(bytes).replace("it is no text of an area: ", "");
+        assert_eq!(says(AREA_A), "byte 0 is 1, a control character");
+        assert_eq!(says("# Übersicht\naera \u{1}".as_bytes()), "byte 18 is 1, a control character");
+        assert_eq!(says(b"aera caf\xe9"), "byte 8 is 233, which is no UTF-8");
+        assert_eq!(says(b""), "it is empty");
     }
 }

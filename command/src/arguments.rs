@@ -1,4 +1,5 @@
 //! The arguments of a subcommand: what it takes, what it is given, and how its use is written.
+use crate::lines::quoted;
 use crate::streams::is_standard;
 use std::ffi::{OsStr, OsString};
 
@@ -25,6 +26,8 @@ pub struct Opt {
 pub struct Given {
     pub operands: Vec<OsString>,
     options: Vec<(&'static str, OsString)>,
+    /// its use is asked for
+    pub help: bool,
 }
 
 impl Given {
@@ -54,7 +57,7 @@ impl Form {
 
     /// What these words give, or what is wrong with them.
     pub fn read(&self, words: &[OsString]) -> Result<Given, String> {
-        let mut given = Given { operands: vec![], options: vec![] };
+        let mut given = Given { operands: vec![], options: vec![], help: false };
         let mut words = words.iter();
         let mut options_end = false;
         while let Some(word) = words.next() {
@@ -63,9 +66,11 @@ impl Form {
                 given.operands.push(word.clone());
             } else if text == "--" {
                 options_end = true;
+            } else if matches!(&*text, "--help" | "-h") {
+                return Ok(Given { help: true, ..given });
             } else {
                 let option = self.options.iter().find(|option| word == option.name);
-                let option = option.ok_or_else(|| format!("there is no option '{}'", text.escape_debug()))?;
+                let option = option.ok_or_else(|| format!("there is no option {}", quoted(&text)))?;
                 if given.has(option.name) {
                     return Err(format!("{} is given twice", option.name));
                 }
@@ -84,7 +89,7 @@ impl Form {
             return Err(format!("no {missing} is named"));
         }
         if let (false, Some(over)) = (self.many, given.operands.get(self.needed.len() + self.more.len())) {
-            return Err(format!("'{}' is one too many", over.to_string_lossy().escape_debug()));
+            return Err(format!("{} is one too many", quoted(&over.to_string_lossy())));
         }
         if given.operands.iter().filter(|operand| is_standard(operand)).count() > 1 {
             return Err("standard input can be read once, and - stands twice".into());
@@ -151,6 +156,14 @@ mod tests {
         assert_eq!(wrong("a -o"), "-o takes FILE, and nothing follows it");
         assert_eq!(wrong("a --trace --trace"), "--trace is given twice");
         assert_eq!(wrong("a -o b -o c"), "-o is given twice");
+    }
+
+    /// Help is asked for by an option, and not by the word after one.
+    #[test]
+    fn help() {
+        let asks = |words: &str| FORM.read(&words.split_whitespace().map(OsString::from).collect::<Vec<_>>()).is_ok_and(|given| given.help);
+        assert!(asks("--help") && asks("a -h b c d") && asks("a -o b -h"));
+        assert!(!asks("a") && !asks("a -o -h") && !asks("a -- -h"));
     }
 
     #[test]

@@ -2,9 +2,9 @@
 //! core decides and this only explains: the first fault is the core's answer, and there is none exactly if the core accepts.
 //!
 //! A rule is left out only where what it reads is not there. After rule 1 that is every other rule; rule 5 where `b` is 0; 6 to 10 where
-//! N is out of its bounds, and 10 where R is. A link above N is a fault of rule 6 alone: nobody knows which segment was meant, so where
-//! a segment has such a link, no other one is said to be missing there, neither by rule 7 nor by the steps of routes. Of a route with a
-//! wrong count no place is tested, and of a place that lists no segment no step to it or from it.
+//! N is out of its bounds, and 10 where R is. A link above N is a fault of rule 6 alone: the segment that was meant is not told, so
+//! that neither rule 7 nor the steps of routes miss a link where it may be this one. Of a route with a wrong count no place is tested, and
+//! of a place that lists no segment no step to it or from it.
 use crate::layout::*;
 use crate::tables::{Segment, Tables};
 use rbu::{braking_distance, FASTEST, FILE_SIZE, LONGEST, ROUTES, SEGMENTS};
@@ -153,9 +153,8 @@ impl Links {
         [(self.at, one.into()), (self.at + 1, second.into())].into_iter().filter(|&(_, link)| link != 0)
     }
 
-    /// None is to this segment, nor above `n`: of such a one nobody knows whether this segment was meant.
-    fn miss(self, segment: usize, n: usize) -> bool {
-        self.links.iter().all(|&link| usize::from(link) != segment && usize::from(link) <= n)
+    fn lead_to(self, segment: usize) -> bool {
+        self.links.iter().any(|&link| usize::from(link) == segment)
     }
 }
 
@@ -228,11 +227,12 @@ impl Teller<'_> {
         if version != VERSION {
             wrong.push(format!("the version is {version} ({}); it must be {VERSION}", self.at(VERSION_AT, 1)));
         }
-        if n == 0 || n > SEGMENTS {
-            wrong.push(format!("the number of segments is {n} ({}); it must be 1 to {SEGMENTS}", self.at(N_AT, 1)));
-        }
-        if r == 0 || r > ROUTES {
-            wrong.push(format!("the number of routes is {r} ({}); it must be 1 to {ROUTES}", self.at(R_AT, 1)));
+        for (thing, many, at, most) in [("segment", n, N_AT, SEGMENTS), ("route", r, R_AT, ROUTES)] {
+            if many == 0 && matches!(self.source, Source::Text(_)) {
+                wrong.push(format!("there is no {thing} line; there must be 1 to {most}"));
+            } else if many == 0 || many > most {
+                wrong.push(format!("the number of {thing}s is {many} ({}); it must be 1 to {most}", self.at(at, 1)));
+            }
         }
         wrong.extend(zeros(self.file, ZERO_AT..ZERO_AT + 1));
         if gmax == 0 || gmax > FASTEST {
@@ -353,6 +353,25 @@ impl Teller<'_> {
         }
     }
 
+    /// A segment lacks a link to another that has one back, or to which a route goes on from it. Where as many links of it lead to no
+    /// segment as are missing, these may be the ones that were meant.
+    fn is_missing(&self, s: usize, links: fn(&Self, usize) -> Links, other: usize) -> bool {
+        let own = links(self, s);
+        if own.lead_to(other) {
+            return false;
+        }
+        let nowhere = own.once().filter(|&(_, link)| link > self.n()).count();
+        nowhere == 0 || (1..=self.n()).filter(|&other| !own.lead_to(other) && self.is_linked(s, own.word, other)).count() > nowhere
+    }
+
+    /// Another segment has a link back to this one, or a route goes on to it from here.
+    fn is_linked(&self, s: usize, word: &str, other: usize) -> bool {
+        match word {
+            "next" => self.previous(other).lead_to(s) || self.tables.routes.iter().any(|route| goes(route, s, other)),
+            _ => self.next(other).lead_to(s),
+        }
+    }
+
     /// Rule 7.
     fn joints(&mut self) {
         for s in 1..=self.n() {
@@ -367,7 +386,7 @@ impl Teller<'_> {
     /// The links of a segment that the links back, of those that they lead to, do not match.
     fn unmatched(&self, s: usize, links: Links, back: fn(&Self, usize) -> Links) -> Vec<String> {
         let (n, word) = (self.n(), links.word);
-        let unmatched = links.once().filter(|&(_, to)| to <= n && back(self, to).miss(s, n));
+        let unmatched = links.once().filter(|&(_, to)| to <= n && self.is_missing(to, back, s));
         let told = |(byte, to)| {
             let (at, only) = (self.at(byte, 1), self.only(to, back(self, to), s));
             format!("segment {s}: it has a {word} link to segment {to} ({at}), and {only}")
@@ -433,12 +452,17 @@ impl Teller<'_> {
             return Some(format!("at place {place} it lists {here} ({}); it must be a segment, 1 to {n}", at()));
         }
         // before place 1 stands the count
-        if place == 1 || before == 0 || before > n || !self.next(before).miss(here, n) {
+        if place == 1 || before == 0 || before > n || !self.is_missing(before, Self::next, here) {
             return None;
         }
         let only = self.only(before, self.next(before), here);
         Some(format!("at place {place} it goes on from segment {before} to segment {here} ({}), and {only}", at()))
     }
+}
+
+/// A route goes on from one segment to the other.
+fn goes(route: &[u8], from: usize, to: usize) -> bool {
+    route.windows(2).any(|step| (usize::from(step[0]), usize::from(step[1])) == (from, to))
 }
 
 // ---- warnings

@@ -12,7 +12,8 @@ pub mod make;
 pub mod run;
 pub mod scenario;
 pub mod script;
-pub mod sha256;
+#[cfg(test)]
+mod sha256; // the build script's
 pub mod show;
 pub mod streams;
 pub mod subcommands;

@@ -38,20 +38,40 @@ pub fn each<'a>(text: &'a str, what: &str, mut read: impl FnMut(Line<'a>) -> Res
     Ok(())
 }
 
-/// The encoding of a text whose characters have two or four bytes. It begins with a mark; or its bytes of 0 show it: one stands beside
-/// the first character, which is a plain one, and the others on the same side of theirs.
+/// The encoding of a text whose characters have two or four bytes: it begins with a mark, or most of its characters, read so, are those
+/// of plain English.
 pub fn wide_encoding(text: &[u8]) -> Option<&'static str> {
     match text {
         [0xff, 0xfe, 0, 0, ..] | [0, 0, 0xfe, 0xff, ..] => return Some("UTF-32"),
         [0xff, 0xfe, ..] | [0xfe, 0xff, ..] => return Some("UTF-16"),
-        [first, 0, 0, 0, ..] | [0, 0, 0, first, ..] if *first != 0 => return Some("UTF-32"),
         _ => (),
     }
-    let zeros = || text.iter().enumerate().filter(|(_, byte)| **byte == 0).map(|(at, _)| at);
-    // one byte of 0 alone is no sign of an encoding, but in a text of one character
-    let told = matches!(text.len(), 2 | 3) || zeros().nth(1).is_some();
-    let side = zeros().next()?;
-    (side < 2 && told && zeros().all(|at| at % 2 == side)).then_some("UTF-16")
+    let is_english = |text: String| {
+        let (english, all) = (text.chars().filter(char::is_ascii).count(), text.chars().count());
+        !text.contains(is_control) && 2 * english > all
+    };
+    let orders = [true, false];
+    if orders.into_iter().any(|low_first| wide_text(text, 4, low_first).is_some_and(is_english)) {
+        return Some("UTF-32");
+    }
+    orders.into_iter().any(|low_first| wide_text(text, 2, low_first).is_some_and(is_english)).then_some("UTF-16")
+}
+
+/// A text read in characters of so many bytes, the low one first or last, unless it is none. A character may be cut off at its end.
+pub fn wide_text(text: &[u8], size: usize, low_first: bool) -> Option<String> {
+    let unit = |bytes: &[u8]| {
+        let place = |at: usize| if low_first { at } else { size - 1 - at };
+        bytes.iter().enumerate().map(|(at, byte)| u32::from(*byte) << (8 * place(at))).sum::<u32>()
+    };
+    let units = text.chunks_exact(size).map(unit);
+    if size == 4 {
+        return units.map(char::from_u32).collect();
+    }
+    let mut units: Vec<u16> = units.map(|unit| unit as u16).collect();
+    if units.last().is_some_and(|last| (0xd800..0xdc00).contains(last)) {
+        units.pop();
+    }
+    String::from_utf16(&units).ok()
 }
 
 /// A character that stands in no plain text.
@@ -59,12 +79,25 @@ pub fn is_control(c: char) -> bool {
     c.is_control() && !matches!(c, '\t' | '\n' | '\r')
 }
 
+/// A word as it is shown: nothing in it is an order to a terminal, and of a long one its beginning.
+pub fn quoted(word: &str) -> String {
+    const SHOWN: usize = 60;
+    let more = if word.chars().nth(SHOWN).is_some() { ".." } else { "" };
+    let shown: String = word.chars().take(SHOWN).collect();
+    format!("'{}{more}'", shown.escape_debug())
+}
+
+pub fn is_digits(word: &str) -> bool {
+    !word.is_empty() && word.bytes().all(|byte| byte.is_ascii_digit())
+}
+
 /// A number of 0 to `most`. A sign is no part of it.
-pub fn number(text: &str, most: u32) -> Result<u32, String> {
-    if text.is_empty() || !text.bytes().all(|byte| byte.is_ascii_digit()) {
-        return Err(format!("'{}' is no number", text.escape_debug()));
+pub fn number(word: &str, most: u32) -> Result<u32, String> {
+    if !is_digits(word) {
+        return Err(format!("{} is no number", quoted(word)));
     }
-    text.parse().ok().filter(|number| *number <= most).ok_or_else(|| format!("{text} is above {most}"))
+    let number = word.parse().ok().filter(|number| *number <= most);
+    number.ok_or_else(|| format!("{} is above {most}", quoted(word).trim_matches('\'')))
 }
 
 /// A number of 16 bits.

@@ -4,7 +4,7 @@ use crate::arguments::Given;
 use crate::explain;
 use crate::scenario::{Call, Line, Scenario};
 use crate::script;
-use crate::streams::{is_standard, print, say, Failure, Status};
+use crate::streams::{is_of_system, is_standard, print, say, Failure, Status};
 use rbu::{Area, Refusal, SEGMENTS};
 use std::ffi::{OsStr, OsString};
 use std::fmt::Write;
@@ -14,9 +14,6 @@ pub fn run(given: &Given) -> Result<Status, Failure> {
     let name = &given.operands[0];
     let scenario = script::read(name)?;
     let area = area_of(given.operands.get(1), name, &scenario)?;
-    if let Some(line) = scenario.short {
-        say(format!("rbu: an enter without a length, as in line {line}, takes a train of 1 dm"));
-    }
     let tracing = given.has("--trace");
     let started = match Area::start(&area.bytes) {
         Ok(started) => started,
@@ -31,8 +28,7 @@ pub fn run(given: &Given) -> Result<Status, Failure> {
     let steps = steps(started.clone(), &scenario);
     let text = if tracing { trace(&steps) } else { transcript(&started, &scenario, &steps) };
     print(text.as_bytes())?;
-    let refused = steps.iter().filter(|step| step.answer.is_err()).count();
-    Ok(if given.has("--strict") && refused > 0 { Status::Refused } else { Status::Done })
+    Ok(if given.has("--strict") && refused(&steps) > 0 { Status::Refused } else { Status::Done })
 }
 
 /// The area that is named after the scenario, or by it, or Area A.
@@ -51,7 +47,8 @@ fn area_of(named: Option<&OsString>, scenario: &OsStr, read: &Scenario) -> Resul
 /// working one. It is always a file: `-` is one of that name.
 fn named_by(scenario: &OsStr, area: &str) -> PathBuf {
     let path = Path::new(scenario);
-    let folder = path.parent().filter(|folder| !is_standard(scenario) && path.is_file() && !folder.as_os_str().is_empty());
+    let is_file = !is_standard(scenario) && !is_of_system(path) && path.is_file();
+    let folder = path.parent().filter(|folder| is_file && !folder.as_os_str().is_empty());
     match folder {
         Some(folder) => folder.join(area),
         None if is_standard(OsStr::new(area)) => Path::new(".").join(area),
@@ -87,6 +84,10 @@ fn steps(mut area: Area, scenario: &Scenario) -> Vec<Step<'_>> {
     steps
 }
 
+fn refused(steps: &[Step]) -> usize {
+    steps.iter().filter(|step| step.answer.is_err()).count()
+}
+
 fn answer(area: &mut Area, call: &Call) -> Result<(), Refusal> {
     match call {
         Call::Enter { train, route, speed, length } => area.enter(*train, *route, *speed, *length),
@@ -99,7 +100,7 @@ fn answer(area: &mut Area, call: &Call) -> Result<(), Refusal> {
 }
 
 /// `NUMBER WORD`.
-fn told(answer: &Result<(), Refusal>) -> String {
+fn number_and_word(answer: &Result<(), Refusal>) -> String {
     answer.map_or_else(|refusal| format!("{} {}", refusal.number, refusal.word()), |()| "0 done".into())
 }
 
@@ -114,15 +115,15 @@ fn transcript(started: &Area, scenario: &Scenario, steps: &[Step]) -> String {
         rest = after;
         text += &rows(line, own);
     }
-    let refused = steps.iter().filter(|step| step.answer.is_err()).count();
     let cycles = steps.last().map_or(0, |step| step.cycles);
-    let _ = writeln!(text, "cycles {cycles} calls {} refused {refused}", steps.len());
+    let _ = writeln!(text, "cycles {cycles} calls {} refused {}", steps.len(), refused(steps));
     text + &state(steps.last().map_or(started, |step| &step.area))
 }
 
 /// A line of the scenario with its answer: a row, and for cycles of which not all is done a row for each refused call.
 fn rows(line: &Line, steps: &[Step]) -> String {
-    let row = |which: &str, answer: &Result<(), Refusal>| format!("line {}: {}{which}: {}\n", line.number, line.text, told(answer));
+    let row =
+        |which: &str, answer: &Result<(), Refusal>| format!("line {}: {}{which}: {}\n", line.number, line.text, number_and_word(answer));
     let refused: Vec<&Step> = steps.iter().filter(|step| step.answer.is_err()).collect();
     if refused.is_empty() {
         return row("", &Ok(()));
@@ -161,7 +162,7 @@ fn trace(steps: &[Step]) -> String {
             Call::Enter { train, .. } | Call::Leave { train } => format!("{} {train}", step.call.name()),
             _ => step.call.name().into(),
         };
-        let call = format!("{number}\t{}\t{}\t{name}\t{}", step.line.number, step.cycles, told(&step.answer));
+        let call = format!("{number}\t{}\t{}\t{name}\t{}", step.line.number, step.cycles, number_and_word(&step.answer));
         let trains = trains(&step.area);
         match trains.is_empty() {
             true => text += &format!("{call}{}\n", "\t-".repeat(COLUMNS.len() - 5)),

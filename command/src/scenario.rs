@@ -1,5 +1,5 @@
 //! A scenario, calls as text (docs/RBU.md): its lines, the calls of each, and what is wrong with one that cannot be read.
-use crate::lines::{self, number, number_16, Line as Words};
+use crate::lines::{self, is_digits, number, number_16, quoted};
 use rbu::{CALL_ITEMS, TRAINS};
 
 /// So many calls a scenario may have.
@@ -112,7 +112,7 @@ pub fn read(bytes: &[u8]) -> Result<Scenario, String> {
         if line.words[0] == "area" {
             return area_line(&line.words[1..], &mut scenario);
         }
-        let asked = asked(&line)?;
+        let asked = asked(line.words[0], &line.words[1..])?;
         if matches!(asked, Asked::One(Call::Enter { .. })) && line.words.len() == 4 {
             scenario.short.get_or_insert(line.number);
         }
@@ -136,15 +136,16 @@ fn area_line(words: &[&str], scenario: &mut Scenario) -> Result<(), String> {
     match words {
         _ if scenario.area.is_some() => Err("'area' stands in a line before already".into()),
         _ if !scenario.lines.is_empty() => Err("'area' comes before the first call: a scenario runs on one area".into()),
+        [name] if name.contains('\u{fffd}') => Err("'area': the name is not in UTF-8; hand the area to rbu as its argument".into()),
         [name] => {
             scenario.area = Some(name.to_string());
             Ok(())
         }
-        _ => Err(format!("'area' takes the NAME of a file, one word, and {} given", given(words.len(), "word"))),
+        _ => Err(format!("'area' takes the NAME of a file, one word, and {} given", are_given(words.len(), "word"))),
     }
 }
 
-fn given(many: usize, thing: &str) -> String {
+fn are_given(many: usize, thing: &str) -> String {
     match many {
         0 => format!("no {thing} is"),
         1 => format!("one {thing} is"),
@@ -154,12 +155,11 @@ fn given(many: usize, thing: &str) -> String {
 
 /// What is said where another number of numbers is given than a call takes.
 fn wrongly_given(call: &str, takes: &str, words: &[&str]) -> String {
-    format!("'{call}' takes {takes}, and {} given", given(words.len(), "number"))
+    format!("'{call}' takes {takes}, and {} given", are_given(words.len(), "number"))
 }
 
 /// What a line's words ask for.
-fn asked(line: &Words) -> Result<Asked, String> {
-    let (call, words) = (line.words[0], &line.words[1..]);
+fn asked(call: &str, words: &[&str]) -> Result<Asked, String> {
     Ok(match call {
         "enter" => Asked::One(enter(words)?),
         "leave" => match numbers(words)?[..] {
@@ -173,7 +173,7 @@ fn asked(line: &Words) -> Result<Asked, String> {
         "position" => alone(call, words, Call::Position)?,
         other => {
             let calls = "the calls are enter, leave, speed, request, grant, position and cycle";
-            return Err(format!("there is no call '{}'; {calls}", other.escape_debug()));
+            return Err(format!("there is no call {}; {calls}", quoted(other)));
         }
     })
 }
@@ -220,7 +220,7 @@ fn cycles(words: &[&str]) -> Result<Asked, String> {
 }
 
 fn times(word: &str) -> Result<u16, String> {
-    match number_16(&word[1..]).map_err(|wrong| format!("'{}' is no xTIMES, as x20: {wrong}", word.escape_debug()))? {
+    match number_16(&word[1..]).map_err(|wrong| format!("{} is no xTIMES, as x20: {wrong}", quoted(word)))? {
         0 => Err("'x0': a cycle is run once or more".into()),
         times => Ok(times),
     }
@@ -231,11 +231,13 @@ fn wishes(wish: u16, others: &[&str]) -> Result<Vec<u16>, String> {
     let mut wishes = vec![wish; TRAINS];
     let mut named = vec![];
     for word in others {
-        let (train, wish) = word.split_once('=').ok_or_else(|| format!("'{}' is not TRAIN=WISH, as 3=250", word.escape_debug()))?;
-        let (train, wish) = (number(train, u32::MAX)? as usize, number_16(wish)?);
-        if !(1..=TRAINS).contains(&train) {
-            return Err(format!("there is no train {train}: trains are 1 to {TRAINS}"));
-        }
+        let pair = word.split_once('=').filter(|(train, wish)| is_digits(train) && is_digits(wish));
+        let (train, wish) = pair.ok_or_else(|| format!("{} is not TRAIN=WISH, as 3=250", quoted(word)))?;
+        let wish = number_16(wish)?;
+        let train = match number(train, TRAINS as u32) {
+            Ok(train @ 1..) => train as usize,
+            _ => return Err(format!("there is no train {}: trains are 1 to {TRAINS}", quoted(train).trim_matches('\''))),
+        };
         if named.contains(&train) {
             return Err(format!("train {train} has two wishes"));
         }

@@ -1,7 +1,7 @@
 //! `rbu script`: the calls of a scenario as bytes, for firmware and C (docs/FORMATS.md).
 use crate::arguments::Given;
 use crate::scenario::{self, Scenario};
-use crate::streams::{shown, write, Failure, Input, Status};
+use crate::streams::{say, shown, write, Failure, Input, Status};
 use std::ffi::OsStr;
 
 pub fn run(given: &Given) -> Result<Status, Failure> {
@@ -12,9 +12,13 @@ pub fn run(given: &Given) -> Result<Status, Failure> {
     Ok(Status::Done)
 }
 
-/// The scenario of this name.
+/// The scenario of this name; that a length was taken is said.
 pub fn read(name: &OsStr) -> Result<Scenario, String> {
     let mut input = Input::open(name)?;
     input.read_to(crate::lines::MOST_TEXT + 1)?;
-    scenario::read(&input.bytes).map_err(|wrong| format!("{}: {wrong}", shown(name)))
+    let scenario = scenario::read(&input.bytes).map_err(|wrong| format!("{}: {wrong}", shown(name)))?;
+    if let Some(line) = scenario.short {
+        say(format!("rbu: an enter without a length, as in line {line}, takes a train of 1 dm"));
+    }
+    Ok(scenario)
 }

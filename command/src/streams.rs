@@ -5,9 +5,10 @@
 //! opened or a message is said: where a stream is closed, a file that is opened stands in its place.
 use std::ffi::OsStr;
 use std::fmt::Display;
-use std::fs::{self, File};
+use std::fs::{self, File, Permissions};
 use std::io::{self, ErrorKind, Read, Write};
 use std::os::fd::AsFd;
+use std::os::unix::fs::{fchown, MetadataExt, OpenOptionsExt, PermissionsExt};
 use std::path::{Path, PathBuf};
 
 /// How a run ends, by its exit status: what comes later goes before what comes earlier.
@@ -45,12 +46,15 @@ fn reason(wrong: &io::Error) -> String {
     text.split(" (os error").next().unwrap_or(&text).into()
 }
 
-/// A name as it is shown: no character of it breaks a line.
+/// A name as it is shown: nothing in it breaks a line or turns it round.
 pub fn shown(name: &OsStr) -> String {
     if is_standard(name) {
         return "standard input".into();
     }
-    let plain = |c: char| if c.is_control() { c.escape_default().to_string() } else { c.to_string() };
+    if name.is_empty() {
+        return "''".into();
+    }
+    let plain = |c: char| if matches!(c, '\'' | '"' | '\\') { c.to_string() } else { c.escape_debug().to_string() };
     name.to_string_lossy().chars().map(plain).collect()
 }
 
@@ -106,49 +110,80 @@ fn unwritten(name: &str, wrong: &io::Error) -> Failure {
 /// Writes all of an output: to the file that is named, otherwise to standard output.
 pub fn write(name: Option<&OsStr>, bytes: &[u8]) -> Result<(), Failure> {
     match name {
-        Some(name) if !is_standard(name) => write_file(Path::new(name), bytes).map_err(|wrong| unwritten(&shown(name), &wrong)),
+        Some(name) if !is_standard(name) && !OUTPUTS.contains(&name.to_str().unwrap_or("")) => {
+            write_file(Path::new(name), bytes).map_err(|wrong| unwritten(&shown(name), &wrong))
+        }
         _ => print(bytes),
     }
 }
 
+/// Other names of standard output, which goes on where it stands.
+const OUTPUTS: [&str; 3] = ["/dev/stdout", "/dev/fd/1", "/proc/self/fd/1"];
+
+/// A name of the system's own, for a device or for a stream that is open.
+pub fn is_of_system(name: &Path) -> bool {
+    name.starts_with("/dev") || name.starts_with("/proc")
+}
+
 /// A file is written beside its name and then takes it, so that a failed run leaves the old one; a device or a pipe is written straight.
 fn write_file(name: &Path, bytes: &[u8]) -> io::Result<()> {
-    let (name, old) = match fs::canonicalize(name) {
-        // by a link, the file that it leads to
-        Ok(found) => {
-            let old = fs::metadata(&found)?;
-            (found, Some(old))
-        }
-        Err(wrong) if wrong.kind() == ErrorKind::NotFound => (name.to_path_buf(), None),
+    let name = followed(name)?;
+    if is_of_system(&name) {
+        return File::options().append(true).open(&name)?.write_all(bytes);
+    }
+    let old = match fs::metadata(&name) {
+        Ok(old) => Some(old),
+        Err(wrong) if wrong.kind() == ErrorKind::NotFound && name.file_name().is_some() => None,
         Err(wrong) => return Err(wrong),
     };
-    let leads_nowhere = old.is_none() && fs::symlink_metadata(&name).is_ok();
-    if leads_nowhere || old.as_ref().is_some_and(|old| !old.is_file()) {
-        return File::options().write(true).create(leads_nowhere).open(&name)?.write_all(bytes);
+    if let Some(old) = &old {
+        // what may not be written is not replaced either, and no folder can be opened so
+        let mut straight = File::options().append(true).open(&name)?;
+        if !old.is_file() {
+            return straight.write_all(bytes);
+        }
     }
-    let beside = beside(&name)?;
-    let written = put(&beside, old, bytes).and_then(|()| fs::rename(&beside, &name));
-    if written.is_err() {
+    let (beside, mut file) = new_beside(&name, old.is_none())?;
+    let written = file.write_all(bytes).and_then(|()| like(&file, old)).and_then(|()| file.sync_all());
+    let placed = written.and_then(|()| fs::rename(&beside, &name));
+    if placed.is_err() {
         let _ = fs::remove_file(&beside);
     }
-    written
+    placed
 }
 
-/// A name in the same folder that no other run has.
-fn beside(name: &Path) -> io::Result<PathBuf> {
-    let own = name.file_name().ok_or_else(|| io::Error::from(ErrorKind::IsADirectory))?;
-    let mut other = OsStr::new(".").to_os_string();
-    other.push(own);
-    other.push(format!(".{}", std::process::id()));
-    Ok(name.with_file_name(other))
-}
-
-/// Writes a new file, with the permissions of the one whose place it is to take.
-fn put(name: &Path, old: Option<fs::Metadata>, bytes: &[u8]) -> io::Result<()> {
-    let mut file = File::options().write(true).create_new(true).open(name)?;
-    file.write_all(bytes)?;
-    if let Some(old) = old {
-        file.set_permissions(old.permissions())?;
+/// Where links lead, also to a file that is not there yet; what the system's own names lead to is for the system to say.
+fn followed(name: &Path) -> io::Result<PathBuf> {
+    let mut name = name.to_path_buf();
+    for _ in 0..40 {
+        match fs::read_link(&name) {
+            Ok(to) if !is_of_system(&name) => name = name.parent().unwrap_or(Path::new("")).join(to),
+            _ => return Ok(name),
+        }
     }
-    file.sync_all()
+    Err(io::Error::other("too many links"))
+}
+
+/// A new file in the same folder, under a name that nothing has. Where it is to replace another one, nobody else may read it yet.
+fn new_beside(name: &Path, open: bool) -> io::Result<(PathBuf, File)> {
+    let mode = if open { 0o666 } else { 0o600 };
+    for number in 0..1000 {
+        let beside = name.with_file_name(format!(".rbu-{}-{number}", std::process::id()));
+        match File::options().write(true).create_new(true).mode(mode).open(&beside) {
+            Ok(file) => return Ok((beside, file)),
+            Err(wrong) if wrong.kind() == ErrorKind::AlreadyExists => (),
+            Err(wrong) if wrong.kind() == ErrorKind::PermissionDenied => {
+                return Err(io::Error::new(wrong.kind(), format!("no file can be made beside it: {}", reason(&wrong))))
+            }
+            Err(wrong) => return Err(wrong),
+        }
+    }
+    Err(io::Error::other("no name beside it is free"))
+}
+
+/// Gives a file the permissions of the one that it is to replace, and its owner where that is allowed.
+fn like(file: &File, old: Option<fs::Metadata>) -> io::Result<()> {
+    let Some(old) = old else { return Ok(()) };
+    let _ = fchown(file, Some(old.uid()), Some(old.gid()));
+    file.set_permissions(Permissions::from_mode(old.mode() & 0o777))
 }

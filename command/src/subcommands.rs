@@ -1,6 +1,6 @@
 //! The subcommands, a row each, and how their use is told.
 use crate::arguments::{Form, Given, Opt};
-use crate::lines::listed;
+use crate::lines::{listed, quoted};
 use crate::streams::{print, Failure, Status};
 use crate::{check, make, run, script, show};
 use std::ffi::OsString;
@@ -49,7 +49,7 @@ const TABLE: &[Subcommand] = &[
             ],
         },
         does: "write an area as text",
-        tells: "The text has a line for the area and for each segment and route. Of a refused area\nthe core's answer is its first line, a comment, and the status is 1.",
+        tells: "The text has a line for the area and for each segment and route. Of a refused area\nthe core's answer is its first line, a comment, and the status is 1; where no text can\nspell it, the first such byte is named.",
         inputs: &[AREAS, TEXT],
         example: "printf 'area gmax 300 b 10 d 4650\\nsegment 1 length 6000 limit 300 entry exit\\nroute 1 1\\n' | rbu show --metres -",
         run: show::run,
@@ -126,34 +126,34 @@ The lines of a scenario; # starts a comment:
 /// Runs what the words ask for.
 pub fn run(words: &[OsString]) -> Result<Status, Failure> {
     let Some((first, rest)) = words.split_first() else {
-        return told(&overview());
+        return tell(&overview());
     };
     match (first.to_str(), rest) {
-        (Some("--version"), []) => told(&version()),
-        (Some("help" | "--help" | "-h"), []) => told(&overview()),
-        (Some("help"), [name]) => told(&found(name)?.help()),
+        (Some("--version"), []) => tell(&version()),
+        (Some("help" | "--help" | "-h"), []) => tell(&overview()),
+        (Some("help"), [name]) => tell(&found(name)?.help()),
         (Some("help"), _) => Err(Failure::Because("help takes one subcommand".into())),
         (Some(option @ ("--version" | "--help" | "-h")), _) => Err(Failure::Because(format!("{option} stands alone"))),
         _ => {
             let subcommand = found(first)?;
-            let before_end = rest.iter().take_while(|word| *word != "--");
-            if before_end.into_iter().any(|word| word == "--help" || word == "-h") {
-                return told(&subcommand.help());
-            }
             let usage = |wrong| format!("{}: {wrong}; usage: {}", subcommand.name, subcommand.usage());
-            (subcommand.run)(&subcommand.form.read(rest).map_err(usage)?)
+            let given = subcommand.form.read(rest).map_err(usage)?;
+            if given.help {
+                return tell(&subcommand.help());
+            }
+            (subcommand.run)(&given)
         }
     }
 }
 
-fn told(text: &str) -> Result<Status, Failure> {
+fn tell(text: &str) -> Result<Status, Failure> {
     print(text.as_bytes())?;
     Ok(Status::Done)
 }
 
 fn found(name: &OsString) -> Result<&'static Subcommand, Failure> {
     let names: Vec<&str> = TABLE.iter().map(|subcommand| subcommand.name).collect();
-    let wrong = || format!("there is no '{}'; there are {} (rbu help)", name.to_string_lossy().escape_debug(), listed(&names, "and"));
+    let wrong = || format!("there is no {}; there are {} (rbu help)", quoted(&name.to_string_lossy()), listed(&names, "and"));
     TABLE.iter().find(|subcommand| name == subcommand.name).ok_or_else(|| Failure::Because(wrong()))
 }
 

@@ -2,7 +2,7 @@
 //! be written too: the core judges an area, not the reader of its text.
 use crate::faults::Lines;
 use crate::layout::{ENTRY, EXIT, ROUTE_SEGMENTS};
-use crate::lines::{self, listed, number, number_16, number_8};
+use crate::lines::{self, is_digits, listed, number, number_16, number_8, quoted};
 use crate::tables::{Segment, Tables};
 use rbu::{ROUTES, SEGMENTS};
 
@@ -24,7 +24,7 @@ pub fn read(bytes: &[u8]) -> Result<(Tables, Lines), String> {
             },
             "segment" => segments.put(words.numbered("segment", SEGMENTS)?, line.number, segment_line(&mut words)?)?,
             "route" => routes.put(words.numbered("route", ROUTES)?, line.number, route_line(&mut words)?)?,
-            other => return Err(format!("'{}' is none of area, segment and route", other.escape_debug())),
+            other => return Err(format!("{} is none of area, segment and route", quoted(other))),
         }
         Ok(())
     })?;
@@ -108,11 +108,13 @@ impl<'a> Words<'a> {
     /// The number of a segment or of a route, from 1.
     fn numbered(&mut self, what: &str, most: usize) -> Result<usize, String> {
         let word = self.value(what)?;
-        match number(word, u32::MAX).map(|number| number as usize) {
-            Ok(number) if (1..=most).contains(&number) => Ok(number),
-            Ok(_) => Err(format!("there is no {what} {word}: {what}s are 1 to {most}")),
-            Err(wrong) => Err(wrong),
+        match number(word, most as u32) {
+            Ok(0) => (),
+            Ok(number) => return Ok(number as usize),
+            Err(wrong) if !is_digits(word) => return Err(wrong),
+            Err(_) => (),
         }
+        Err(format!("there is no {what} {}: {what}s are 1 to {most}", quoted(word).trim_matches('\'')))
     }
 
     fn number_16(&mut self, of: &str) -> Result<u16, String> {
@@ -133,12 +135,16 @@ impl<'a> Words<'a> {
         // decimetres, which may be more than a file has room for
         let length = match metres.map(|metres| metres.split_once('.').unwrap_or((metres, "0"))) {
             None => digits(word),
-            Some((metres, tenth)) if tenth.len() == 1 => digits(metres).zip(digits(tenth)).map(|(metres, tenth)| 10 * metres + tenth),
+            Some((metres, tenth)) if tenth.len() == 1 => {
+                digits(metres).zip(digits(tenth)).map(|(metres, tenth)| metres.saturating_mul(10).saturating_add(tenth))
+            }
             Some(_) => None,
         };
-        let length = length.and_then(|length| u32::try_from(length).ok());
-        let wrong = || format!("'{of}': '{}' is no length; it is decimetres, as 6000, or metres, as 600 m or 600.5 m", word.escape_debug());
-        length.ok_or_else(wrong)
+        match length.map(u32::try_from) {
+            Some(Ok(length)) => Ok(length),
+            Some(Err(_)) => Err(format!("'{of}': {} is more than {} dm", quoted(word), u32::MAX)),
+            None => Err(format!("'{of}': {} is no length; it is decimetres, as 6000, or metres, as 600 m or 600.5 m", quoted(word))),
+        }
     }
 
     /// One or two segments, or `none`.
@@ -146,22 +152,21 @@ impl<'a> Words<'a> {
         if self.take_if(|word| word == "none").is_some() {
             return Ok([0, 0]);
         }
-        let is_number = |word: &str| word.bytes().all(|byte| byte.is_ascii_digit());
         let first = self.number_8(of)?;
-        let second = match self.take_if(is_number) {
+        let second = match self.take_if(is_digits) {
             Some(word) => of_word(of, number_8(word))?,
             None => 0,
         };
-        match self.take_if(is_number) {
+        match self.take_if(is_digits) {
             Some(_) => Err(format!("'{of}' takes one or two segments")),
             None => Ok([first, second]),
         }
     }
 }
 
-/// A number of up to 32 bits, for a sum that is longer.
-fn digits(text: &str) -> Option<u64> {
-    number(text, u32::MAX).ok().map(u64::from)
+/// A number of any length; one that has no room is the greatest.
+fn digits(word: &str) -> Option<u64> {
+    is_digits(word).then(|| word.parse().unwrap_or(u64::MAX))
 }
 
 fn of_word<T>(word: &str, value: Result<T, String>) -> Result<T, String> {
@@ -187,7 +192,7 @@ fn area_line(words: &mut Words) -> Result<(u16, u16, u32), String> {
             "gmax" => once(&mut gmax, word, words.number_16(word)?)?,
             "b" => once(&mut b, word, words.number_16(word)?)?,
             "d" => once(&mut d, word, words.length(word)?)?,
-            other => return Err(format!("'{}' is none of gmax, b and d", other.escape_debug())),
+            other => return Err(format!("{} is none of gmax, b and d", quoted(other))),
         }
     }
     let form = "area gmax G b B d D";
@@ -207,7 +212,7 @@ fn segment_line(words: &mut Words) -> Result<(Segment, Option<[u8; 2]>), String>
             "flags" => once(&mut flags, word, words.number_8(word)?)?,
             "to" => once(&mut next, word, words.links(word)?)?,
             "from" => once(&mut previous, word, words.links(word)?)?,
-            other => return Err(format!("'{}' is none of length, limit, entry, exit, flags, to and from", other.escape_debug())),
+            other => return Err(format!("{} is none of length, limit, entry, exit, flags, to and from", quoted(other))),
         }
     }
     if flags.is_some() && (entry.is_some() || exit.is_some()) {

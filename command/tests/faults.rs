@@ -409,12 +409,12 @@ fn words_for_the_header() {
         Case {
             change: |tables| tables.segments.clear(),
             of_file: &["4 0: the number of segments is 0 (byte 1); it must be 1 to 62"],
-            of_text: &["4 0: the number of segments is 0 (line 3); it must be 1 to 62"],
+            of_text: &["4 0: there is no segment line; there must be 1 to 62"],
         },
         Case {
             change: |tables| tables.routes.clear(),
             of_file: &["4 0: the number of routes is 0 (byte 2); it must be 1 to 30"],
-            of_text: &["4 0: the number of routes is 0 (line 3); it must be 1 to 30"],
+            of_text: &["4 0: there is no route line; there must be 1 to 30"],
         },
         Case {
             change: |tables| tables.gmax = 0,
@@ -608,6 +608,43 @@ fn words_for_a_segment() {
             change: |tables| tables.segments[2].previous = [1, 4],
             of_file: &["6 3: segment 3: its second previous link is 4 (byte 553); it must be at most 3, the number of segments"],
             of_text: &["6 3: segment 3: its second previous link is 4 (line 7); it must be at most 3, the number of segments"],
+        },
+        // two segments lead to this one, and one link of it leads to no segment: it cannot be meant for both
+        Case {
+            change: |tables| tables.segments[2].previous = [4, 0],
+            of_file: &[
+                "6 3: segment 3: its first previous link is 4 (byte 552); it must be at most 3, the number of segments",
+                "7 1: segment 1: it has a next link to segment 3 (byte 518), \
+                 and segment 3 has the previous link 4 (bytes 552-553), none to 1",
+                "7 2: segment 2: it has a next link to segment 3 (byte 534), \
+                 and segment 3 has the previous link 4 (bytes 552-553), none to 2",
+            ],
+            of_text: &[
+                "6 3: segment 3: its first previous link is 4 (line 7); it must be at most 3, the number of segments",
+                "7 1: segment 1: it has a next link to segment 3 (line 5), and segment 3 has the previous link 4 (line 7), none to 1",
+                "7 2: segment 2: it has a next link to segment 3 (line 6), and segment 3 has the previous link 4 (line 7), none to 2",
+            ],
+        },
+        // routes go on from segment 1 to two others, and its link leads to no segment
+        Case {
+            change: |tables| (tables.segments[0].next, tables.routes[1]) = ([200, 0], vec![1, 2]),
+            of_file: &[
+                "6 1: segment 1: its first next link is 200 (byte 518); it must be at most 3, the number of segments",
+                "7 3: segment 3: it has a previous link to segment 1 (byte 552), \
+                 and segment 1 has the next link 200 (bytes 518-519), none to 3",
+                "10 1: route 1: at place 2 it goes on from segment 1 to segment 3 (byte 1538), \
+                 and segment 1 has the next link 200 (bytes 518-519), none to 3",
+                "10 2: route 2: at place 2 it goes on from segment 1 to segment 2 (byte 1570), \
+                 and segment 1 has the next link 200 (bytes 518-519), none to 2",
+            ],
+            of_text: &[
+                "6 1: segment 1: its first next link is 200 (line 5); it must be at most 3, the number of segments",
+                "7 3: segment 3: it has a previous link to segment 1 (line 7), and segment 1 has the next link 200 (line 5), none to 3",
+                "10 1: route 1: at place 2 it goes on from segment 1 to segment 3 (line 9), \
+                 and segment 1 has the next link 200 (line 5), none to 3",
+                "10 2: route 2: at place 2 it goes on from segment 1 to segment 2 (line 10), \
+                 and segment 1 has the next link 200 (line 5), none to 2",
+            ],
         },
         Case {
             change: |tables| (tables.segments[0].previous, tables.segments[2].next) = ([0, 4], [5, 5]),

@@ -83,8 +83,10 @@ fn wishes() {
     says("speed 300 0=1", "line 1: there is no train 0: trains are 1 to 24");
     says("speed 300 25=1", "line 1: there is no train 25: trains are 1 to 24");
     says("speed 300 2=1 2=1", "line 1: train 2 has two wishes");
-    says("speed 300 2=x", "line 1: 'x' is no number");
-    says("speed 300 =2", "line 1: '' is no number");
+    says("speed 300 2=x", "line 1: '2=x' is not TRAIN=WISH, as 3=250");
+    says("speed 300 =2", "line 1: '=2' is not TRAIN=WISH, as 3=250");
+    says("speed 300 2=", "line 1: '2=' is not TRAIN=WISH, as 3=250");
+    says("speed 300 99999999999=1", "line 1: there is no train 99999999999: trains are 1 to 24");
     says("speed 300 2=65536", "line 1: 65536 is above 65535");
     says("speed 300 x2", "line 1: 'x2' is no number");
 }
@@ -122,6 +124,7 @@ fn the_area_of_a_scenario() {
     says("area", "line 1: 'area' takes the NAME of a file, one word, and no word is given");
     says("area a b", "line 1: 'area' takes the NAME of a file, one word, and 2 words are given");
     says("area a\narea a", "line 2: 'area' stands in a line before already");
+    says(b"area caf\xe9.area", "line 1: 'area': the name is not in UTF-8; hand the area to rbu as its argument");
     says("request\narea a", "line 2: 'area' comes before the first call: a scenario runs on one area");
 }
 
@@ -160,7 +163,7 @@ fn wide_encodings() {
     says(&wide, &utf_32);
     says([&[0xff, 0xfe, 0, 0], &wide[..]].concat(), &utf_32);
     // without a mark, where only some characters are plain ones; and a text of one character
-    for text in ["#Ж\nrequest\n", "#"] {
+    for text in ["#Ж\nrequest\n", "#", "# ── two trains ──\nrequest\n"] {
         says(text.encode_utf16().flat_map(u16::to_le_bytes).collect::<Vec<u8>>(), &utf_16);
         says(text.encode_utf16().flat_map(u16::to_be_bytes).collect::<Vec<u8>>(), &utf_16);
     }
@@ -184,6 +187,9 @@ fn bytes_of_zero() {
 fn words_are_shown_plainly() {
     assert!(read(b"\x1b[31mfly").unwrap_err().starts_with("line 1: there is no call '\\u{1b}[31mfly';"));
     says("leave \u{1b}[31m", "line 1: '\\u{1b}[31m' is no number");
+    // and of a long one its beginning
+    says(format!("leave {}", "x".repeat(1000)), &format!("line 1: '{}..' is no number", "x".repeat(60)));
+    says(format!("leave {}", "9".repeat(1000)), &format!("line 1: {}.. is above 65535", "9".repeat(60)));
 }
 
 /// A scenario may have 20,000 calls; of more it is said how many there are, and where they go over.

@@ -186,9 +186,15 @@ fn lengths() {
     ] {
         assert_eq!(length(text), Ok(right), "{text}");
     }
-    for text in
-        ["600.55 m", "600. m", ".5 m", "6e3", "-1", "+1", "600.5", "600 km", "m", "4294967296", "429496730 m", "429496729.6 m", "0x10"]
-    {
+    for (text, word) in [
+        ("4294967296", "4294967296"),
+        ("429496730 m", "429496730"),
+        ("429496729.6m", "429496729.6m"),
+        ("99999999999999999999", "99999999999999999999"),
+    ] {
+        assert_eq!(length(text).unwrap_err(), format!("line 1: 'd': '{word}' is more than 4294967295 dm"));
+    }
+    for text in ["600.55 m", "600. m", ".5 m", "6e3", "-1", "+1", "600.5", "600 km", "m", "0x10"] {
         let said = length(text).unwrap_err();
         let is_length = said.ends_with("is no length; it is decimetres, as 6000, or metres, as 600 m or 600.5 m");
         assert!(is_length || said == "line 1: 'km' is none of gmax, b and d", "{text}: {said}");
@@ -215,6 +221,7 @@ fn lines_that_cannot_be_read() {
         (format!("{area}segment"), "line 2: 'segment' takes a number, and nothing follows it"),
         (format!("{area}segment length 6000 limit 300"), "line 2: 'length' is no number"),
         (format!("{area}{}", segment(0)), "line 2: there is no segment 0: segments are 1 to 62"),
+        (format!("{area}{}", segment(99_999_999_999)), "line 2: there is no segment 99999999999: segments are 1 to 62"),
         (format!("{area}{}", segment(63)), "line 2: there is no segment 63: segments are 1 to 62"),
         (format!("{area}segment 1 limit 300"), "line 2: 'length' is missing: segment NUMBER length L limit V"),
         (format!("{area}segment 1 length 6000"), "line 2: 'limit' is missing: segment NUMBER length L limit V"),
