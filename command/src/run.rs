@@ -4,7 +4,7 @@ use crate::arguments::Given;
 use crate::explain;
 use crate::scenario::{Call, Line, Scenario};
 use crate::script;
-use crate::streams::{is_of_system, is_standard, print, say, Failure, Status};
+use crate::streams::{is_standard, is_stream, print, say, Failure, Status};
 use rbu::{Area, Refusal, SEGMENTS};
 use std::ffi::{OsStr, OsString};
 use std::fmt::Write;
@@ -47,7 +47,7 @@ fn area_of(named: Option<&OsString>, scenario: &OsStr, read: &Scenario) -> Resul
 /// working one. It is always a file: `-` is one of that name.
 fn named_by(scenario: &OsStr, area: &str) -> PathBuf {
     let path = Path::new(scenario);
-    let is_file = !is_standard(scenario) && !is_of_system(path) && path.is_file();
+    let is_file = !is_standard(scenario) && !is_stream(path) && path.is_file();
     let folder = path.parent().filter(|folder| is_file && !folder.as_os_str().is_empty());
     match folder {
         Some(folder) => folder.join(area),

@@ -120,15 +120,17 @@ pub fn write(name: Option<&OsStr>, bytes: &[u8]) -> Result<(), Failure> {
 /// Other names of standard output, which goes on where it stands.
 const OUTPUTS: [&str; 3] = ["/dev/stdout", "/dev/fd/1", "/proc/self/fd/1"];
 
-/// A name of the system's own, for a device or for a stream that is open.
-pub fn is_of_system(name: &Path) -> bool {
-    name.starts_with("/dev") || name.starts_with("/proc")
+/// A name of the system's own for a stream that is open.
+pub fn is_stream(name: &Path) -> bool {
+    ["/dev/stdin", "/dev/stdout", "/dev/stderr"].iter().any(|stream| name == Path::new(stream))
+        || name.starts_with("/dev/fd")
+        || name.starts_with("/proc")
 }
 
 /// A file is written beside its name and then takes it, so that a failed run leaves the old one; a device or a pipe is written straight.
 fn write_file(name: &Path, bytes: &[u8]) -> io::Result<()> {
     let name = followed(name)?;
-    if is_of_system(&name) {
+    if is_stream(&name) {
         return File::options().append(true).open(&name)?.write_all(bytes);
     }
     let old = match fs::metadata(&name) {
@@ -152,12 +154,12 @@ fn write_file(name: &Path, bytes: &[u8]) -> io::Result<()> {
     placed
 }
 
-/// Where links lead, also to a file that is not there yet; what the system's own names lead to is for the system to say.
+/// Where links lead, also to a file that is not there yet; what a stream's name leads to is for the system to say.
 fn followed(name: &Path) -> io::Result<PathBuf> {
     let mut name = name.to_path_buf();
     for _ in 0..40 {
         match fs::read_link(&name) {
-            Ok(to) if !is_of_system(&name) => name = name.parent().unwrap_or(Path::new("")).join(to),
+            Ok(to) if !is_stream(&name) => name = name.parent().unwrap_or(Path::new("")).join(to),
             _ => return Ok(name),
         }
     }
