@@ -1,4 +1,4 @@
-// The core of the radio block unit for C: link librbu.a, which `rt staticlib rbu` writes.
+// The core of the radio block unit for C: link librbu.a, which `make` writes (target/staticlib/librbu.a).
 //
 // What each function does is its contract in crates/rbu/src/lib.rt, which is proved. The layouts are in docs/FORMATS.md.
 //

@@ -11,6 +11,6 @@ fn main() {
     // for the build script of a program that names the archive it links
     println!("cargo::metadata=archive={}", archive.display());
     if !archive.is_file() {
-        println!("cargo::error=target/staticlib/librbu.a is not there: run `rt staticlib rbu` first, in the folder above rust/");
+        println!("cargo::error=target/staticlib/librbu.a is not there: run `make` first, in the folder above rust/");
     }
 }
