@@ -9,24 +9,6 @@ use borrow.Author.Needs.{needs}
 use Rattle.blocks.proofs.block_of.Statement.{statement}
 use Rattle.blocks.proofs.block_of.Tie as tie
 
-mul-result : tie.Need-mul-result
-mul-result c = search needs
-
-mul-result-2 : tie.Need-mul-result-2
-mul-result-2 c = search needs
-
-add-result : tie.Need-add-result
-add-result c = search needs
-
-sub-result : tie.Need-sub-result
-sub-result c = search needs
-
-part-result-start : tie.Need-part-result-start
-part-result-start c = search needs
-
-part-result-end : tie.Need-part-result-end
-part-result-end c = search needs
-
 returns : tie.Need-returns
 unfolding block
 returns c =
@@ -37,11 +19,4 @@ returns c =
 pub block-of-spec : {M : Type 1} → statement M
 block-of-spec =
     tie.close
-    (tie.spec
-    mul-result
-    mul-result-2
-    add-result
-    sub-result
-    part-result-start
-    part-result-end
-    returns)
+    (tie.spec (λ c. search needs) (λ c. search needs) (λ c. search needs) (λ c. search needs) (λ c. search needs) (λ c. search needs) returns)

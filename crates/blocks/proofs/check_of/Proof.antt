@@ -36,9 +36,6 @@ loop-holds : tie.Need-loop-holds Inv-loop μ-loop
 unfolding sums
 loop-holds c = (omega arith, omega arith, omega arith, refl)
 
-shared-slice-read-first : tie.Need-shared-slice-read-first Inv-loop μ-loop
-shared-slice-read-first c = omega arith
-
 cast-first : tie.Need-cast-first Inv-loop μ-loop
 cast-first c = omega (arith, c .shared-slice-known .given (c .before .before .loop .i))
 
@@ -48,23 +45,11 @@ add-first c = omega (arith, c .shared-slice-known .given (c .before .before .loo
 add-second : tie.Need-add-second Inv-loop μ-loop
 add-second c = omega (arith, c .shared-slice-known .given (c .before .before .loop .i))
 
-add-i : tie.Need-add-i Inv-loop μ-loop
-add-i c = omega arith
-
-loop-less : tie.Need-loop-less Inv-loop μ-loop
-loop-less c = omega arith
-
 loop-again : tie.Need-loop-again Inv-loop μ-loop
 loop-again c =
     let l = c .before .before .loop in
     let b = c .shared-slice-known .given (l .i) in
     (omega arith, omega arith, omega arith, sums-more _ (l .i) _ _ (omega arith) (l .inv .3))
-
-cast-t10 : tie.Need-cast-t10 Inv-loop μ-loop
-cast-t10 c = omega arith
-
-cast-t12 : tie.Need-cast-t12 Inv-loop μ-loop
-cast-t12 c = omega arith
 
 returns : tie.Need-returns Inv-loop μ-loop
 returns c =
@@ -75,17 +60,5 @@ returns c =
 pub check-of-spec : {M : Type 1} → statement M
 check-of-spec =
     tie.close
-    (tie.spec
-    Inv-loop
-    μ-loop
-    loop-holds
-    shared-slice-read-first
-    cast-first
-    add-first
-    add-second
-    add-i
-    loop-less
-    loop-again
-    cast-t10
-    cast-t12
-    returns)
+    (tie.spec Inv-loop μ-loop loop-holds (λ c. omega arith) cast-first add-first add-second (λ c. omega arith) (λ c. omega arith) loop-again
+    (λ c. omega arith) (λ c. omega arith) returns)

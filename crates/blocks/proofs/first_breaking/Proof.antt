@@ -24,21 +24,6 @@ abbrev μ-loop : tie.MeasureT-loop
 loop-holds : tie.Need-loop-holds Inv-loop μ-loop
 loop-holds c = scan-begin
 
-block-of-requires : tie.Need-block-of-requires Inv-loop μ-loop
-block-of-requires c κs = search needs
-
-cast-block-meets : tie.Need-cast-block-meets Inv-loop μ-loop
-cast-block-meets c = omega arith
-
-block-meets-requires : tie.Need-block-meets-requires Inv-loop μ-loop
-block-meets-requires c κs = search needs
-
-add-result : tie.Need-add-result Inv-loop μ-loop
-add-result c = omega arith
-
-cast-result : tie.Need-cast-result Inv-loop μ-loop
-cast-result c = omega arith
-
 -- the turn of the loop in which a block is tested
 abbrev turn : tie.After-block-meets Inv-loop μ-loop → tie.In-loop Inv-loop μ-loop
 turn c = c .before .before
@@ -54,12 +39,6 @@ here c =
 returns : tie.Need-returns Inv-loop μ-loop
 returns c = scan-found (turn (c .before) .before .loop .inv) (turn (c .before) .loop-test .taken) (here (c .before)) (c .if1 .taken)
 
-add-k : tie.Need-add-k Inv-loop μ-loop
-add-k c = omega arith
-
-loop-less : tie.Need-loop-less Inv-loop μ-loop
-loop-less c = omega arith
-
 loop-again : tie.Need-loop-again Inv-loop μ-loop
 loop-again c = scan-more (turn (c .before) .before .loop .inv) (turn (c .before) .loop-test .taken) (here (c .before)) (c .if1 .left)
 
@@ -69,17 +48,5 @@ returns-2 c = scan-over (c .before .loop .inv) (c .loop-test .left)
 pub first-breaking-spec : {M : Type 1} → statement M
 first-breaking-spec =
     tie.close
-    (tie.spec
-    Inv-loop
-    μ-loop
-    loop-holds
-    block-of-requires
-    cast-block-meets
-    block-meets-requires
-    add-result
-    cast-result
-    returns
-    add-k
-    loop-less
-    loop-again
-    returns-2)
+    (tie.spec Inv-loop μ-loop loop-holds (λ c κs. search needs) (λ c. omega arith) (λ c κs. search needs) (λ c. omega arith)
+    (λ c. omega arith) returns (λ c. omega arith) (λ c. omega arith) loop-again returns-2)

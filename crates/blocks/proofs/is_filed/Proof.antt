@@ -4,21 +4,6 @@ use Rattle.file.specs.Blocks.{filed}
 use Rattle.blocks.proofs.is_filed.Statement.{statement}
 use Rattle.blocks.proofs.is_filed.Tie as tie
 
-byte-requires : tie.Need-byte-requires
-byte-requires c κs = search needs
-
-kind-of-requires : tie.Need-kind-of-requires
-kind-of-requires c κs = search needs
-
-byte-requires-2 : tie.Need-byte-requires-2
-byte-requires-2 c κs = search needs
-
-are-zeros-requires : tie.Need-are-zeros-requires
-are-zeros-requires c κs = search needs
-
-are-zeros-requires-2 : tie.Need-are-zeros-requires-2
-are-zeros-requires-2 c κs = search needs
-
 returns : tie.Need-returns
 unfolding filed
 returns c =
@@ -33,10 +18,4 @@ returns c =
 pub is-filed-spec : {M : Type 1} → statement M
 is-filed-spec =
     tie.close
-    (tie.spec
-    byte-requires
-    kind-of-requires
-    byte-requires-2
-    are-zeros-requires
-    are-zeros-requires-2
-    returns)
+    (tie.spec (λ c κs. search needs) (λ c κs. search needs) (λ c κs. search needs) (λ c κs. search needs) (λ c κs. search needs) returns)

@@ -26,15 +26,6 @@ returns : tie.Need-returns Inv-loop μ-loop
 returns c = search kept-end
 
 -- the kept speed falls, and the sum fits
-loop-less : tie.Need-loop-less Inv-loop μ-loop
-loop-less c = omega arith
-
-loop-less-2 : tie.Need-loop-less-2 Inv-loop μ-loop
-loop-less-2 c = omega arith
-
-sub-falling : tie.Need-sub-falling Inv-loop μ-loop
-sub-falling c = omega arith
-
 add-sum : tie.Need-add-sum Inv-loop μ-loop
 add-sum c =
     let b = c .before .before .args .braking in
@@ -43,4 +34,5 @@ add-sum c =
 
 pub braking-distance-spec : {M : Type 1} → statement M
 braking-distance-spec =
-    tie.close (tie.spec Inv-loop μ-loop loop-holds add-sum sub-falling loop-less loop-again loop-less-2 loop-again-2 returns)
+    tie.close
+    (tie.spec Inv-loop μ-loop loop-holds add-sum (λ c. omega arith) (λ c. omega arith) loop-again (λ c. omega arith) loop-again-2 returns)

@@ -39,15 +39,6 @@ loop-holds c = (omega arith, refl)
 sub-read-once : tie.Need-sub-read-once Inv-loop μ-loop
 sub-read-once c = c .before .loop .inv .0
 
-part-read-once-start : tie.Need-part-read-once-start Inv-loop μ-loop
-part-read-once-start c = search needs
-
-part-read-once-end : tie.Need-part-read-once-end Inv-loop μ-loop
-part-read-once-end c = search needs
-
-read-once-requires : tie.Need-read-once-requires Inv-loop μ-loop
-read-once-requires c κs = search needs
-
 same-length : tie.Need-same-length Inv-loop μ-loop
 same-length c = let l = c .before .before .before in l .buffer .given .1 ∙ l .before .before .before .before .loop .inv .1
 
@@ -80,18 +71,5 @@ returns-2 c = counted _ _ (c .before .loop .inv .0)
 pub read-input-spec : {M : Type 1} → statement M
 read-input-spec =
     tie.close
-    (tie.spec
-    Inv-loop
-    μ-loop
-    loop-holds
-    sub-read-once
-    part-read-once-start
-    part-read-once-end
-    read-once-requires
-    same-length
-    returns
-    add-count
-    loop-less
-    loop-again
-    same-length-2
-    returns-2)
+    (tie.spec Inv-loop μ-loop loop-holds sub-read-once (λ c. search needs) (λ c. search needs) (λ c κs. search needs) same-length returns
+    add-count loop-less loop-again same-length-2 returns-2)

@@ -17,27 +17,6 @@ abbrev μ-loop : tie.MeasureT-loop
 loop-holds : tie.Need-loop-holds Inv-loop μ-loop
 loop-holds c = make-begin (search needs) (search needs)
 
-add-released-one : tie.Need-add-released-one Inv-loop μ-loop
-add-released-one c = omega arith
-
-cast-released-one : tie.Need-cast-released-one Inv-loop μ-loop
-cast-released-one c = omega arith
-
-array-read-released-one : tie.Need-array-read-released-one Inv-loop μ-loop
-array-read-released-one c = omega arith
-
-released-one-requires : tie.Need-released-one-requires Inv-loop μ-loop
-released-one-requires c κs = search needs
-
-array-write-new : tie.Need-array-write-new Inv-loop μ-loop
-array-write-new c = omega arith
-
-add-i : tie.Need-add-i Inv-loop μ-loop
-add-i c = omega arith
-
-loop-less : tie.Need-loop-less Inv-loop μ-loop
-loop-less c = omega arith
-
 loop-again : tie.Need-loop-again Inv-loop μ-loop
 loop-again c =
     make-more (c .before .before .before .loop .inv) _ (c .before .before .loop-test .taken)
@@ -49,16 +28,5 @@ returns c = make-over (c .before .loop .inv) (c .loop-test .left)
 pub released-by-spec : {M : Type 1} → statement M
 released-by-spec =
     tie.close
-    (tie.spec
-    Inv-loop
-    μ-loop
-    loop-holds
-    add-released-one
-    cast-released-one
-    array-read-released-one
-    released-one-requires
-    array-write-new
-    add-i
-    loop-less
-    loop-again
-    returns)
+    (tie.spec Inv-loop μ-loop loop-holds (λ c. omega arith) (λ c. omega arith) (λ c. omega arith) (λ c κs. search needs) (λ c. omega arith)
+    (λ c. omega arith) (λ c. omega arith) loop-again returns)

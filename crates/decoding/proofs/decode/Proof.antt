@@ -4,42 +4,6 @@ use Rattle.decoding.specs.Decoding.{decoded}
 use Rattle.decoding.proofs.decode.Statement.{statement}
 use Rattle.decoding.proofs.decode.Tie as tie
 
-block-of-requires : tie.Need-block-of-requires
-block-of-requires c κs = search needs
-
-byte-requires : tie.Need-byte-requires
-byte-requires c κs = search needs
-
-byte-requires-2 : tie.Need-byte-requires-2
-byte-requires-2 c κs = search needs
-
-two-at-requires : tie.Need-two-at-requires
-two-at-requires c κs = search needs
-
-two-at-requires-2 : tie.Need-two-at-requires-2
-two-at-requires-2 c κs = search needs
-
-four-at-requires : tie.Need-four-at-requires
-four-at-requires c κs = search needs
-
-lengths-of-requires : tie.Need-lengths-of-requires
-lengths-of-requires c κs = search needs
-
-limits-of-requires : tie.Need-limits-of-requires
-limits-of-requires c κs = search needs
-
-links-of-requires : tie.Need-links-of-requires
-links-of-requires c κs = search needs
-
-links-of-requires-2 : tie.Need-links-of-requires-2
-links-of-requires-2 c κs = search needs
-
-flags-of-requires : tie.Need-flags-of-requires
-flags-of-requires c κs = search needs
-
-routebytes-of-requires : tie.Need-routebytes-of-requires
-routebytes-of-requires c κs = search needs
-
 returns : tie.Need-returns
 unfolding decoded
 returns c =
@@ -64,17 +28,6 @@ returns c =
 pub decode-spec : {M : Type 1} → statement M
 decode-spec =
     tie.close
-    (tie.spec
-    block-of-requires
-    byte-requires
-    byte-requires-2
-    two-at-requires
-    two-at-requires-2
-    four-at-requires
-    lengths-of-requires
-    limits-of-requires
-    links-of-requires
-    links-of-requires-2
-    flags-of-requires
-    routebytes-of-requires
-    returns)
+    (tie.spec (λ c κs. search needs) (λ c κs. search needs) (λ c κs. search needs) (λ c κs. search needs) (λ c κs. search needs)
+    (λ c κs. search needs) (λ c κs. search needs) (λ c κs. search needs) (λ c κs. search needs) (λ c κs. search needs) (λ c κs. search needs)
+    (λ c κs. search needs) returns)

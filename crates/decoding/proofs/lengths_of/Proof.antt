@@ -17,27 +17,6 @@ abbrev μ-loop : tie.MeasureT-loop
 loop-holds : tie.Need-loop-holds Inv-loop μ-loop
 loop-holds c = table-begin
 
-segment-block-requires : tie.Need-segment-block-requires Inv-loop μ-loop
-segment-block-requires c κs = search needs
-
-segment-start-requires : tie.Need-segment-start-requires Inv-loop μ-loop
-segment-start-requires c κs = search needs
-
-four-at-requires : tie.Need-four-at-requires Inv-loop μ-loop
-four-at-requires c κs = search needs
-
-mul-lengths : tie.Need-mul-lengths Inv-loop μ-loop
-mul-lengths c = omega arith
-
-array-write-lengths : tie.Need-array-write-lengths Inv-loop μ-loop
-array-write-lengths c = omega arith
-
-add-i : tie.Need-add-i Inv-loop μ-loop
-add-i c = omega arith
-
-loop-less : tie.Need-loop-less Inv-loop μ-loop
-loop-less c = omega arith
-
 loop-again : tie.Need-loop-again Inv-loop μ-loop
 unfolding lengthIn
 loop-again c =
@@ -50,16 +29,5 @@ returns c = table-over (c .before .loop .inv) (c .loop-test .left)
 pub lengths-of-spec : {M : Type 1} → statement M
 lengths-of-spec =
     tie.close
-    (tie.spec
-    Inv-loop
-    μ-loop
-    loop-holds
-    segment-block-requires
-    segment-start-requires
-    four-at-requires
-    mul-lengths
-    array-write-lengths
-    add-i
-    loop-less
-    loop-again
-    returns)
+    (tie.spec Inv-loop μ-loop loop-holds (λ c κs. search needs) (λ c κs. search needs) (λ c κs. search needs) (λ c. omega arith)
+    (λ c. omega arith) (λ c. omega arith) (λ c. omega arith) loop-again returns)

@@ -16,33 +16,6 @@ abbrev μ-loop : tie.MeasureT-loop
 loop-holds : tie.Need-loop-holds Inv-loop μ-loop
 loop-holds c = table-begin
 
-segment-block-requires : tie.Need-segment-block-requires Inv-loop μ-loop
-segment-block-requires c κs = search needs
-
-segment-start-requires : tie.Need-segment-start-requires Inv-loop μ-loop
-segment-start-requires c κs = search needs
-
-cast-two-at : tie.Need-cast-two-at Inv-loop μ-loop
-cast-two-at c = omega arith
-
-add-two-at : tie.Need-add-two-at Inv-loop μ-loop
-add-two-at c = omega arith
-
-two-at-requires : tie.Need-two-at-requires Inv-loop μ-loop
-two-at-requires c κs = search needs
-
-mul-limits : tie.Need-mul-limits Inv-loop μ-loop
-mul-limits c = omega arith
-
-array-write-limits : tie.Need-array-write-limits Inv-loop μ-loop
-array-write-limits c = omega arith
-
-add-i : tie.Need-add-i Inv-loop μ-loop
-add-i c = omega arith
-
-loop-less : tie.Need-loop-less Inv-loop μ-loop
-loop-less c = omega arith
-
 loop-again : tie.Need-loop-again Inv-loop μ-loop
 unfolding limitIn
 loop-again c =
@@ -55,18 +28,5 @@ returns c = table-over (c .before .loop .inv) (c .loop-test .left)
 pub limits-of-spec : {M : Type 1} → statement M
 limits-of-spec =
     tie.close
-    (tie.spec
-    Inv-loop
-    μ-loop
-    loop-holds
-    segment-block-requires
-    segment-start-requires
-    cast-two-at
-    add-two-at
-    two-at-requires
-    mul-limits
-    array-write-limits
-    add-i
-    loop-less
-    loop-again
-    returns)
+    (tie.spec Inv-loop μ-loop loop-holds (λ c κs. search needs) (λ c κs. search needs) (λ c. omega arith) (λ c. omega arith)
+    (λ c κs. search needs) (λ c. omega arith) (λ c. omega arith) (λ c. omega arith) (λ c. omega arith) loop-again returns)

@@ -17,24 +17,6 @@ abbrev μ-loop : tie.MeasureT-loop
 loop-holds : tie.Need-loop-holds Inv-loop μ-loop
 loop-holds c = table-begin
 
-add-block-of : tie.Need-add-block-of Inv-loop μ-loop
-add-block-of c = omega arith
-
-block-of-requires : tie.Need-block-of-requires Inv-loop μ-loop
-block-of-requires c κs = search needs
-
-byte-requires : tie.Need-byte-requires Inv-loop μ-loop
-byte-requires c κs = search needs
-
-array-write-routebytes : tie.Need-array-write-routebytes Inv-loop μ-loop
-array-write-routebytes c = omega arith
-
-add-i : tie.Need-add-i Inv-loop μ-loop
-add-i c = omega arith
-
-loop-less : tie.Need-loop-less Inv-loop μ-loop
-loop-less c = omega arith
-
 loop-again : tie.Need-loop-again Inv-loop μ-loop
 unfolding routeByteIn
 loop-again c =
@@ -49,15 +31,5 @@ returns c = table-over (c .before .loop .inv) (c .loop-test .left)
 pub routebytes-of-spec : {M : Type 1} → statement M
 routebytes-of-spec =
     tie.close
-    (tie.spec
-    Inv-loop
-    μ-loop
-    loop-holds
-    add-block-of
-    block-of-requires
-    byte-requires
-    array-write-routebytes
-    add-i
-    loop-less
-    loop-again
-    returns)
+    (tie.spec Inv-loop μ-loop loop-holds (λ c. omega arith) (λ c κs. search needs) (λ c κs. search needs) (λ c. omega arith)
+    (λ c. omega arith) (λ c. omega arith) loop-again returns)

@@ -6,12 +6,6 @@ use Rattle.decoding.specs.Decoding.{segmentBlock}
 use Rattle.decoding.proofs.segment_block.Statement.{statement}
 use Rattle.decoding.proofs.segment_block.Tie as tie
 
-add-block-of : tie.Need-add-block-of
-add-block-of c = search needs
-
-block-of-requires : tie.Need-block-of-requires
-block-of-requires c κs = search needs
-
 returns : tie.Need-returns
 unfolding segmentBlock
 returns c =
@@ -20,4 +14,4 @@ returns c =
     rw e (c .block-of .ensures .0)
 
 pub segment-block-spec : {M : Type 1} → statement M
-segment-block-spec = tie.close (tie.spec add-block-of block-of-requires returns)
+segment-block-spec = tie.close (tie.spec (λ c. search needs) (λ c κs. search needs) returns)

@@ -16,21 +16,6 @@ abbrev μ-loop : tie.MeasureT-loop
 loop-holds : tie.Need-loop-holds Inv-loop μ-loop
 loop-holds c = make-begin (search needs) (search needs)
 
-array-read-freed-one : tie.Need-array-read-freed-one Inv-loop μ-loop
-array-read-freed-one c = omega arith
-
-freed-one-requires : tie.Need-freed-one-requires Inv-loop μ-loop
-freed-one-requires c κs = search needs
-
-array-write-new : tie.Need-array-write-new Inv-loop μ-loop
-array-write-new c = omega arith
-
-add-i : tie.Need-add-i Inv-loop μ-loop
-add-i c = omega arith
-
-loop-less : tie.Need-loop-less Inv-loop μ-loop
-loop-less c = omega arith
-
 loop-again : tie.Need-loop-again Inv-loop μ-loop
 loop-again c =
     make-more (c .before .before .loop .inv) _ (c .before .loop-test .taken)
@@ -42,14 +27,5 @@ returns c = make-over (c .before .loop .inv) (c .loop-test .left)
 pub freed-all-spec : {M : Type 1} → statement M
 freed-all-spec =
     tie.close
-    (tie.spec
-    Inv-loop
-    μ-loop
-    loop-holds
-    array-read-freed-one
-    freed-one-requires
-    array-write-new
-    add-i
-    loop-less
-    loop-again
-    returns)
+    (tie.spec Inv-loop μ-loop loop-holds (λ c. omega arith) (λ c κs. search needs) (λ c. omega arith) (λ c. omega arith) (λ c. omega arith)
+    loop-again returns)

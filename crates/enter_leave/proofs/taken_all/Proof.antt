@@ -11,16 +11,10 @@ use Rattle.enter_leave.proofs.taken_all.Tie as tie
 returns : tie.Need-returns
 returns c = sym (store-none _ _ _ (inl (omega arith)))
 
-sub-i : tie.Need-sub-i
-sub-i c = search needs
-
 returns-2 : tie.Need-returns-2
 returns-2 c =
     let n : length (c .before .before .args .allocations) ≡ 62 = search needs in
     sym (store-none _ _ _ (inr (omega arith)))
-
-array-write-new : tie.Need-array-write-new
-array-write-new c = search needs
 
 returns-3 : tie.Need-returns-3
 returns-3 c =
@@ -28,4 +22,4 @@ returns-3 c =
     store-each _ _ _ (omega arith) (omega arith)
 
 pub taken-all-spec : {M : Type 1} → statement M
-taken-all-spec = tie.close (tie.spec returns sub-i returns-2 array-write-new returns-3)
+taken-all-spec = tie.close (tie.spec returns (λ c. search needs) returns-2 (λ c. search needs) returns-3)

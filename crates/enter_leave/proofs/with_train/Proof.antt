@@ -11,19 +11,10 @@ use Rattle.enter_leave.proofs.with_train.Tie as tie
 returns : tie.Need-returns
 returns c = sym (store-none _ _ _ (inl (omega arith)))
 
-sub-i : tie.Need-sub-i
-sub-i c = search needs
-
 returns-2 : tie.Need-returns-2
 returns-2 c =
     let n : length (c .before .before .args .trains) ≡ 24 = search long-of in
     sym (store-none _ _ _ (inr (omega arith)))
-
-mul-new : tie.Need-mul-new
-mul-new c = search needs
-
-array-set-from-new : tie.Need-array-set-from-new
-array-set-from-new c = search needs
 
 returns-3 : tie.Need-returns-3
 returns-3 c =
@@ -31,4 +22,4 @@ returns-3 c =
     store-each _ _ _ (omega arith) (omega arith)
 
 pub with-train-spec : {M : Type 1} → statement M
-with-train-spec = tie.close (tie.spec returns sub-i returns-2 mul-new array-set-from-new returns-3)
+with-train-spec = tie.close (tie.spec returns (λ c. search needs) returns-2 (λ c. search needs) (λ c. search needs) returns-3)

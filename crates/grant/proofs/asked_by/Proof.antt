@@ -13,9 +13,6 @@ chosen b w e = rw e
 passed : (b : Bool) (w : ℕ) → b ≡ false → (if b then w else 0) ≡ 0
 passed b w e = rw e
 
-wanted-of-requires : tie.Need-wanted-of-requires
-wanted-of-requires c κs = search needs
-
 returns : tie.Need-returns
 returns c = c .wanted-of .ensures ∙ sym (chosen _ _ (eq-eqb _ _ (c .before .if1 .taken)))
 
@@ -23,4 +20,4 @@ returns-2 : tie.Need-returns-2
 returns-2 c = sym (passed _ _ (ne-eqb _ _ (c .if1 .left)))
 
 pub asked-by-spec : {M : Type 1} → statement M
-asked-by-spec = tie.close (tie.spec wanted-of-requires returns returns-2)
+asked-by-spec = tie.close (tie.spec (λ c κs. search needs) returns returns-2)

@@ -20,33 +20,6 @@ abbrev μ-loop : tie.MeasureT-loop
 loop-holds : tie.Need-loop-holds Inv-loop μ-loop
 loop-holds c T same = make-begin (search long-of) (search long-of)
 
-mul-x : tie.Need-mul-x Inv-loop μ-loop
-mul-x c = omega arith
-
-array-copy-out-x : tie.Need-array-copy-out-x Inv-loop μ-loop
-array-copy-out-x c = omega arith
-
-add-calmed-one : tie.Need-add-calmed-one Inv-loop μ-loop
-add-calmed-one c = omega arith
-
-cast-calmed-one : tie.Need-cast-calmed-one Inv-loop μ-loop
-cast-calmed-one c = omega arith
-
-calmed-one-requires : tie.Need-calmed-one-requires Inv-loop μ-loop
-calmed-one-requires c κs = search needs
-
-mul-new : tie.Need-mul-new Inv-loop μ-loop
-mul-new c = omega arith
-
-array-set-from-new : tie.Need-array-set-from-new Inv-loop μ-loop
-array-set-from-new c = omega arith
-
-add-i : tie.Need-add-i Inv-loop μ-loop
-add-i c = omega arith
-
-loop-less : tie.Need-loop-less Inv-loop μ-loop
-loop-less c = omega arith
-
 loop-again : tie.Need-loop-again Inv-loop μ-loop
 loop-again c T same =
     make-more (c .before .before .before .loop .inv T same) _ (c .before .before .loop-test .taken)
@@ -58,18 +31,5 @@ returns c T same = make-over (c .before .loop .inv T same) (c .loop-test .left)
 pub calmed-all-spec : {M : Type 1} → statement M
 calmed-all-spec =
     tie.close
-    (tie.spec
-    Inv-loop
-    μ-loop
-    loop-holds
-    mul-x
-    array-copy-out-x
-    add-calmed-one
-    cast-calmed-one
-    calmed-one-requires
-    mul-new
-    array-set-from-new
-    add-i
-    loop-less
-    loop-again
-    returns)
+    (tie.spec Inv-loop μ-loop loop-holds (λ c. omega arith) (λ c. omega arith) (λ c. omega arith) (λ c. omega arith) (λ c κs. search needs)
+    (λ c. omega arith) (λ c. omega arith) (λ c. omega arith) (λ c. omega arith) loop-again returns)

@@ -26,27 +26,6 @@ slice-aggregate-offer c =
     let e : length (l .first) ≡ 62 = ap length (l .inv .1) ∙ length-tabulate 62 _ in
     search needs
 
-add-entry-u8 : tie.Need-add-entry-u8 Inv-loop μ-loop
-add-entry-u8 c = omega arith
-
-entry-u8-requires : tie.Need-entry-u8-requires Inv-loop μ-loop
-entry-u8-requires c κs = search needs
-
-add-offer : tie.Need-add-offer Inv-loop μ-loop
-add-offer c = omega arith
-
-cast-offer : tie.Need-cast-offer Inv-loop μ-loop
-cast-offer c = omega arith
-
-offer-requires : tie.Need-offer-requires Inv-loop μ-loop
-offer-requires c κs = search needs
-
-add-i : tie.Need-add-i Inv-loop μ-loop
-add-i c = omega arith
-
-loop-less : tie.Need-loop-less Inv-loop μ-loop
-loop-less c = omega arith
-
 loop-again : tie.Need-loop-again Inv-loop μ-loop
 loop-again c =
     let l = c .before .before .before .before .before .before in
@@ -61,17 +40,5 @@ returns c =
 pub first-askers-spec : {M : Type 1} → statement M
 first-askers-spec =
     tie.close
-    (tie.spec
-    Inv-loop
-    μ-loop
-    loop-holds
-    slice-aggregate-offer
-    add-entry-u8
-    entry-u8-requires
-    add-offer
-    cast-offer
-    offer-requires
-    add-i
-    loop-less
-    loop-again
-    returns)
+    (tie.spec Inv-loop μ-loop loop-holds slice-aggregate-offer (λ c. omega arith) (λ c κs. search needs) (λ c. omega arith) (λ c. omega arith)
+    (λ c κs. search needs) (λ c. omega arith) (λ c. omega arith) loop-again returns)

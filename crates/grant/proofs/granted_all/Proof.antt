@@ -56,15 +56,6 @@ grant-asked T trains routebytes A asks counts first same long e n f =
     ∙ asker-served T trains s)
     ∙ or-if h (served T trains s)))
 
-asking-all-requires : tie.Need-asking-all-requires
-asking-all-requires c κs = search needs
-
-first-askers-requires : tie.Need-first-askers-requires
-first-askers-requires c κs = search needs
-
-granted-by-requires : tie.Need-granted-by-requires
-granted-by-requires c κs = search needs
-
 returns : tie.Need-returns
 returns c T same =
     let f = c .before in
@@ -75,4 +66,4 @@ returns c T same =
     (f .first-askers .ensures)
 
 pub granted-all-spec : {M : Type 1} → statement M
-granted-all-spec = tie.close (tie.spec asking-all-requires first-askers-requires granted-by-requires returns)
+granted-all-spec = tie.close (tie.spec (λ c κs. search needs) (λ c κs. search needs) (λ c κs. search needs) returns)

@@ -19,24 +19,6 @@ abbrev μ-loop : tie.MeasureT-loop
 loop-holds : tie.Need-loop-holds Inv-loop μ-loop
 loop-holds c = make-begin (search needs) (search needs)
 
-array-read-held-or : tie.Need-array-read-held-or Inv-loop μ-loop
-array-read-held-or c = omega arith
-
-array-read-held-or-2 : tie.Need-array-read-held-or-2 Inv-loop μ-loop
-array-read-held-or-2 c = omega arith
-
-held-or-requires : tie.Need-held-or-requires Inv-loop μ-loop
-held-or-requires c κs = search needs
-
-array-write-new : tie.Need-array-write-new Inv-loop μ-loop
-array-write-new c = omega arith
-
-add-i : tie.Need-add-i Inv-loop μ-loop
-add-i c = omega arith
-
-loop-less : tie.Need-loop-less Inv-loop μ-loop
-loop-less c = omega arith
-
 loop-again : tie.Need-loop-again Inv-loop μ-loop
 loop-again c =
     let l = c .before .before in
@@ -49,15 +31,5 @@ returns c = make-over (c .before .loop .inv) (c .loop-test .left)
 pub granted-by-spec : {M : Type 1} → statement M
 granted-by-spec =
     tie.close
-    (tie.spec
-    Inv-loop
-    μ-loop
-    loop-holds
-    array-read-held-or
-    array-read-held-or-2
-    held-or-requires
-    array-write-new
-    add-i
-    loop-less
-    loop-again
-    returns)
+    (tie.spec Inv-loop μ-loop loop-holds (λ c. omega arith) (λ c. omega arith) (λ c κs. search needs) (λ c. omega arith) (λ c. omega arith)
+    (λ c. omega arith) loop-again returns)

@@ -4,18 +4,6 @@ use Rattle.reading.specs.Verdict.{headerFiled}
 use Rattle.judging.proofs.is_header_filed.Statement.{statement}
 use Rattle.judging.proofs.is_header_filed.Tie as tie
 
-block-of-requires : tie.Need-block-of-requires
-block-of-requires c κs = search needs
-
-byte-requires : tie.Need-byte-requires
-byte-requires c κs = search needs
-
-byte-requires-2 : tie.Need-byte-requires-2
-byte-requires-2 c κs = search needs
-
-are-zeros-requires : tie.Need-are-zeros-requires
-are-zeros-requires c κs = search needs
-
 returns : tie.Need-returns
 unfolding headerFiled
 returns c =
@@ -28,4 +16,4 @@ returns c =
 
 pub is-header-filed-spec : {M : Type 1} → statement M
 is-header-filed-spec =
-    tie.close (tie.spec block-of-requires byte-requires byte-requires-2 are-zeros-requires returns)
+    tie.close (tie.spec (λ c κs. search needs) (λ c κs. search needs) (λ c κs. search needs) (λ c κs. search needs) returns)

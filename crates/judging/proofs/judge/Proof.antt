@@ -76,15 +76,6 @@ start7 c = start6 (c .before .before .before .before .before)
 left7 : (c : tie.Else7) → After 7 (start7 c)
 left7 c = leave-none (c .before .first-bad-route .ensures) (left6 (c .before .before .before .before .before)) (c .if7 .left)
 
-is-header-filed-requires : tie.Need-is-header-filed-requires
-is-header-filed-requires c κs = search needs
-
-header-ok-requires : tie.Need-header-ok-requires
-header-ok-requires c κs = search needs
-
-refused-requires : tie.Need-refused-requires
-refused-requires c κs = search needs
-
 returns : tie.Need-returns
 returns c = c .refused .ensures ∙ refuse-broken (header (c .before .before)) (left0 (c .before .before .before .before .before)) (c .before .if1 .taken)
 
@@ -92,68 +83,20 @@ margin-ok-requires : tie.Need-margin-ok-requires
 unfolding headerIn
 margin-ok-requires c κs = let f = simp facts at (test-holds (header (c .before)) (c .if1 .left)) in omega arith
 
-refused-requires-2 : tie.Need-refused-requires-2
-refused-requires-2 c κs = search needs
-
 returns-2 : tie.Need-returns-2
 returns-2 c = c .refused2 .ensures ∙ refuse-broken (c .before .before .margin-ok .ensures) (left1 (c .before .before .before)) (c .before .if2 .taken)
-
-first-bad-record-requires : tie.Need-first-bad-record-requires
-first-bad-record-requires c κs = search needs
-
-cast-refused : tie.Need-cast-refused
-cast-refused c = search needs
-
-refused-requires-3 : tie.Need-refused-requires-3
-refused-requires-3 c κs = search needs
 
 returns-3 : tie.Need-returns-3
 returns-3 c = c .refused3 .ensures ∙ refuse-number (c .before .before .first-bad-record .ensures) (left2 (c .before .before .before)) (c .before .if3 .taken)
 
-first-breaking-requires : tie.Need-first-breaking-requires
-first-breaking-requires c κs = search needs
-
-cast-refused-2 : tie.Need-cast-refused-2
-cast-refused-2 c = search needs
-
-refused-requires-4 : tie.Need-refused-requires-4
-refused-requires-4 c κs = search needs
-
 returns-4 : tie.Need-returns-4
 returns-4 c = c .refused4 .ensures ∙ refuse-number (c .before .before .first-breaking .ensures) (left3 (c .before .before .before .before .before .before .before)) (c .before .if4 .taken)
-
-first-breaking-requires-2 : tie.Need-first-breaking-requires-2
-first-breaking-requires-2 c κs = search needs
-
-cast-refused-3 : tie.Need-cast-refused-3
-cast-refused-3 c = search needs
-
-refused-requires-5 : tie.Need-refused-requires-5
-refused-requires-5 c κs = search needs
 
 returns-5 : tie.Need-returns-5
 returns-5 c = c .refused5 .ensures ∙ refuse-number (c .before .before .first-breaking2 .ensures) (left4 (c .before .before .before .before .before .before .before)) (c .before .if5 .taken)
 
-first-breaking-requires-3 : tie.Need-first-breaking-requires-3
-first-breaking-requires-3 c κs = search needs
-
-cast-refused-4 : tie.Need-cast-refused-4
-cast-refused-4 c = search needs
-
-refused-requires-6 : tie.Need-refused-requires-6
-refused-requires-6 c κs = search needs
-
 returns-6 : tie.Need-returns-6
 returns-6 c = c .refused6 .ensures ∙ refuse-number (c .before .before .first-breaking3 .ensures) (left5 (c .before .before .before .before .before .before .before)) (c .before .if6 .taken)
-
-first-bad-route-requires : tie.Need-first-bad-route-requires
-first-bad-route-requires c κs = search needs
-
-cast-refused-5 : tie.Need-cast-refused-5
-cast-refused-5 c = search needs
-
-refused-requires-7 : tie.Need-refused-requires-7
-refused-requires-7 c κs = search needs
 
 returns-7 : tie.Need-returns-7
 returns-7 c = c .refused7 .ensures ∙ refuse-number (c .before .before .first-bad-route .ensures) (left6 (c .before .before .before .before .before .before)) (c .before .if7 .taken)
@@ -164,32 +107,7 @@ returns-8 c = left7 c .decide
 pub judge-spec : {M : Type 1} → statement M
 judge-spec =
     tie.close
-    (tie.spec
-    is-header-filed-requires
-    header-ok-requires
-    refused-requires
-    returns
-    margin-ok-requires
-    refused-requires-2
-    returns-2
-    first-bad-record-requires
-    cast-refused
-    refused-requires-3
-    returns-3
-    first-breaking-requires
-    cast-refused-2
-    refused-requires-4
-    returns-4
-    first-breaking-requires-2
-    cast-refused-3
-    refused-requires-5
-    returns-5
-    first-breaking-requires-3
-    cast-refused-4
-    refused-requires-6
-    returns-6
-    first-bad-route-requires
-    cast-refused-5
-    refused-requires-7
-    returns-7
-    returns-8)
+    (tie.spec (λ c κs. search needs) (λ c κs. search needs) (λ c κs. search needs) returns margin-ok-requires (λ c κs. search needs) returns-2
+    (λ c κs. search needs) (λ c. search needs) (λ c κs. search needs) returns-3 (λ c κs. search needs) (λ c. search needs)
+    (λ c κs. search needs) returns-4 (λ c κs. search needs) (λ c. search needs) (λ c κs. search needs) returns-5 (λ c κs. search needs)
+    (λ c. search needs) (λ c κs. search needs) returns-6 (λ c κs. search needs) (λ c. search needs) (λ c κs. search needs) returns-7 returns-8)

@@ -33,47 +33,14 @@ left2 c = leave-none (c .before .first-damaged .ensures) (left1 (c .before .befo
 left3 : (c : tie.Else3) → After 3 (c .before .before .before .before .before .before)
 left3 c = leave-none (c .before .first-misfiled .ensures) (left2 (c .before .before)) (c .if3 .left)
 
-refused-requires : tie.Need-refused-requires
-refused-requires c κs = search needs
-
 returns : tie.Need-returns
 returns c = c .refused .ensures ∙ refuse (left0 (c .before .before .before)) (rw (ne-eqb _ _ (c .before .if1 .taken)))
-
-first-damaged-requires : tie.Need-first-damaged-requires
-first-damaged-requires c κs = search needs
-
-cast-refused : tie.Need-cast-refused
-cast-refused c = search needs
-
-sub-refused : tie.Need-sub-refused
-sub-refused c = search needs
-
-refused-requires-2 : tie.Need-refused-requires-2
-refused-requires-2 c κs = search needs
 
 returns-2 : tie.Need-returns-2
 returns-2 c = c .refused2 .ensures ∙ refuse-block (c .before .before .first-damaged .ensures) (left1 (c .before .before .before)) (c .before .if2 .taken)
 
-first-misfiled-requires : tie.Need-first-misfiled-requires
-first-misfiled-requires c κs = search needs
-
-cast-refused-2 : tie.Need-cast-refused-2
-cast-refused-2 c = search needs
-
-sub-refused-2 : tie.Need-sub-refused-2
-sub-refused-2 c = search needs
-
-refused-requires-3 : tie.Need-refused-requires-3
-refused-requires-3 c κs = search needs
-
 returns-3 : tie.Need-returns-3
 returns-3 c = c .refused3 .ensures ∙ refuse-block (c .before .before .first-misfiled .ensures) (left2 (c .before .before .before)) (c .before .if3 .taken)
-
-decode-requires : tie.Need-decode-requires
-decode-requires c κs = search needs
-
-judge-requires : tie.Need-judge-requires
-judge-requires c κs = search needs
 
 returns-4 : tie.Need-returns-4
 returns-4 c = rw (c .before .decode .ensures) at (c .judge .ensures) ∙ left3 (c .before .before) .decide
@@ -81,19 +48,6 @@ returns-4 c = rw (c .before .decode .ensures) at (c .judge .ensures) ∙ left3 (
 pub read-spec : {M : Type 1} → statement M
 read-spec =
     tie.close
-    (tie.spec
-    refused-requires
-    returns
-    first-damaged-requires
-    cast-refused
-    sub-refused
-    refused-requires-2
-    returns-2
-    first-misfiled-requires
-    cast-refused-2
-    sub-refused-2
-    refused-requires-3
-    returns-3
-    decode-requires
-    judge-requires
-    returns-4)
+    (tie.spec (λ c κs. search needs) returns (λ c κs. search needs) (λ c. search needs) (λ c. search needs) (λ c κs. search needs) returns-2
+    (λ c κs. search needs) (λ c. search needs) (λ c. search needs) (λ c κs. search needs) returns-3 (λ c κs. search needs)
+    (λ c κs. search needs) returns-4)

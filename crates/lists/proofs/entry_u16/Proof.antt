@@ -9,15 +9,6 @@ use Rattle.lists.proofs.entry_u16.Tie as tie
 returns : tie.Need-returns
 returns c = sym (nth-zero _ _ _ (c .if1 .taken))
 
-sub-i : tie.Need-sub-i
-sub-i c = search needs
-
-mul-result : tie.Need-mul-result
-mul-result c = search needs
-
-shared-slice-read-result : tie.Need-shared-slice-read-result
-shared-slice-read-result c = search needs
-
 returns-2 : tie.Need-returns-2
 returns-2 c = sym (nth-in _ _ _ (omega arith))
 
@@ -25,4 +16,4 @@ returns-3 : tie.Need-returns-3
 returns-3 c = sym (nth-out _ _ _ (omega arith))
 
 pub entry-u16-spec : {M : Type 1} → statement M
-entry-u16-spec = tie.close (tie.spec returns sub-i mul-result shared-slice-read-result returns-2 returns-3)
+entry-u16-spec = tie.close (tie.spec returns (λ c. search needs) (λ c. search needs) (λ c. search needs) returns-2 returns-3)

@@ -7,21 +7,9 @@ use borrow.Author.Needs.{needs}
 use Rattle.lookups.proofs.count_of.Statement.{statement}
 use Rattle.lookups.proofs.count_of.Tie as tie
 
-entry-u8-requires : tie.Need-entry-u8-requires
-entry-u8-requires c κs = search needs
-
 returns : tie.Need-returns
 unfolding countOf
 returns c = let e : 32 * c .before .before .before .args .r - 31 ≡ 0 = omega arith in rw e (c .entry-u8 .ensures)
-
-mul-entry-u8 : tie.Need-mul-entry-u8
-mul-entry-u8 c = search needs
-
-sub-entry-u8 : tie.Need-sub-entry-u8
-sub-entry-u8 c = search needs
-
-entry-u8-requires-2 : tie.Need-entry-u8-requires-2
-entry-u8-requires-2 c κs = search needs
 
 returns-2 : tie.Need-returns-2
 unfolding countOf
@@ -29,5 +17,4 @@ returns-2 c = c .entry-u82 .ensures
 
 pub count-of-spec : {M : Type 1} → statement M
 count-of-spec =
-    tie.close
-    (tie.spec entry-u8-requires returns mul-entry-u8 sub-entry-u8 entry-u8-requires-2 returns-2)
+    tie.close (tie.spec (λ c κs. search needs) returns (λ c. search needs) (λ c. search needs) (λ c κs. search needs) returns-2)

@@ -24,9 +24,6 @@ by-index links s n h =
     let f : 2 * s - 1 ≡ 2 * s - 2 + 1 = omega arith in
     rw (nth-in 0 links (2 * s - 1) (omega arith), nth-in 0 links (2 * s) (omega arith), e, f)
 
-mul-i : tie.Need-mul-i
-mul-i c = search needs
-
 sub-i : tie.Need-sub-i
 sub-i c = let f = simp facts at (c .if1 .taken) in omega arith
 
@@ -49,12 +46,6 @@ returns-2 c =
     let a = c .before .before .before .before .args in
     let f = simp facts at (c .before .before .before .if1 .taken) in rw (by-index (now (a .links)) (a .s) (a .n) (f .0), ne-eqb _ _ (c .before .if2 .left))
 
-first-link-requires : tie.Need-first-link-requires
-first-link-requires c κs = search needs
-
-second-link-requires : tie.Need-second-link-requires
-second-link-requires c κs = search needs
-
 returns-3 : tie.Need-returns-3
 unfolding linksTo
 returns-3 c = simp (c .before .first-link .ensures, c .second-link .ensures)
@@ -62,14 +53,5 @@ returns-3 c = simp (c .before .first-link .ensures, c .second-link .ensures)
 pub links-to-spec : {M : Type 1} → statement M
 links-to-spec =
     tie.close
-    (tie.spec
-    mul-i
-    sub-i
-    element-copy-out-if2
-    returns
-    add-result
-    element-copy-out-result
-    returns-2
-    first-link-requires
-    second-link-requires
-    returns-3)
+    (tie.spec (λ c. search needs) sub-i element-copy-out-if2 returns add-result element-copy-out-result returns-2 (λ c κs. search needs)
+    (λ c κs. search needs) returns-3)

@@ -7,24 +7,9 @@ use borrow.Author.Needs.{needs}
 use Rattle.lookups.proofs.segment_at.Statement.{statement}
 use Rattle.lookups.proofs.segment_at.Tie as tie
 
-entry-u8-requires : tie.Need-entry-u8-requires
-entry-u8-requires c κs = search needs
-
 returns : tie.Need-returns
 unfolding segmentAt
 returns c = let a = c .before .before .before .args in let e : 32 * a .r - 31 + a .p ≡ a .p = omega arith in rw e (c .entry-u8 .ensures)
-
-mul-entry-u8 : tie.Need-mul-entry-u8
-mul-entry-u8 c = search needs
-
-sub-entry-u8 : tie.Need-sub-entry-u8
-sub-entry-u8 c = search needs
-
-add-entry-u8 : tie.Need-add-entry-u8
-add-entry-u8 c = search needs
-
-entry-u8-requires-2 : tie.Need-entry-u8-requires-2
-entry-u8-requires-2 c κs = search needs
 
 returns-2 : tie.Need-returns-2
 unfolding segmentAt
@@ -33,11 +18,4 @@ returns-2 c = c .entry-u82 .ensures
 pub segment-at-spec : {M : Type 1} → statement M
 segment-at-spec =
     tie.close
-    (tie.spec
-    entry-u8-requires
-    returns
-    mul-entry-u8
-    sub-entry-u8
-    add-entry-u8
-    entry-u8-requires-2
-    returns-2)
+    (tie.spec (λ c κs. search needs) returns (λ c. search needs) (λ c. search needs) (λ c. search needs) (λ c κs. search needs) returns-2)

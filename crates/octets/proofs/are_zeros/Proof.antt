@@ -28,14 +28,8 @@ Inv-loop s first last from end i₀ i = (first ≤ i) × (i ≤ max first (last 
 abbrev μ-loop : tie.MeasureT-loop
 μ-loop s first last from end i₀ i = end - i
 
-add-end : tie.Need-add-end Inv-loop μ-loop
-add-end c = search needs
-
 loop-holds : tie.Need-loop-holds Inv-loop μ-loop
 loop-holds c = (omega arith, omega arith, simp sub-self (every-none _))
-
-byte-requires : tie.Need-byte-requires Inv-loop μ-loop
-byte-requires c κs = search needs
 
 returns : tie.Need-returns Inv-loop μ-loop
 unfolding zeros
@@ -45,12 +39,6 @@ returns c =
     sym
     (every-fails (zeroAt (now (a .s)) (a .first)) (a .last + 1 - a .first) (i - a .first + 1) (omega arith) (omega arith)
     (at-index (now (a .s)) (a .first) i _ (omega arith) (ne-eqb _ _ (λ q. c .if1 .taken (c .before .byte .ensures ∙ q)))))
-
-add-i : tie.Need-add-i Inv-loop μ-loop
-add-i c = omega arith
-
-loop-less : tie.Need-loop-less Inv-loop μ-loop
-loop-less c = omega arith
 
 loop-again : tie.Need-loop-again Inv-loop μ-loop
 loop-again c =
@@ -72,14 +60,5 @@ returns-2 c =
 pub are-zeros-spec : {M : Type 1} → statement M
 are-zeros-spec =
     tie.close
-    (tie.spec
-    Inv-loop
-    μ-loop
-    add-end
-    loop-holds
-    byte-requires
-    returns
-    add-i
-    loop-less
-    loop-again
+    (tie.spec Inv-loop μ-loop (λ c. search needs) loop-holds (λ c κs. search needs) returns (λ c. omega arith) (λ c. omega arith) loop-again
     returns-2)

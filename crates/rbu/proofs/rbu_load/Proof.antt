@@ -5,12 +5,6 @@ use Rattle.answers.specs.Answers.{numberOf, placeOf}
 use Rattle.rbu.proofs.rbu_load.Statement.{statement}
 use Rattle.rbu.proofs.rbu_load.Tie as tie
 
-load-requires : tie.Need-load-requires
-load-requires c κs = search needs
-
-tell-requires : tie.Need-tell-requires
-tell-requires c κs = search needs
-
 returns : tie.Need-returns
 returns c =
     let e = c .before .before .load .ensures in
@@ -18,4 +12,4 @@ returns c =
     (t .0 ∙ ap (λ (o : Outcome). numberOf (o .answer)) e, t .1 ∙ ap (λ (o : Outcome). placeOf (o .answer)) e)
 
 pub rbu-load-spec : {M : Type 1} → statement M
-rbu-load-spec = tie.close (tie.spec load-requires tell-requires returns)
+rbu-load-spec = tie.close (tie.spec (λ c κs. search needs) (λ c κs. search needs) returns)

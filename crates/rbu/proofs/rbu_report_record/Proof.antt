@@ -6,12 +6,6 @@ use Rattle.area.specs.Calls.{reported}
 use Rattle.rbu.proofs.rbu_report_record.Statement.{statement}
 use Rattle.rbu.proofs.rbu_report_record.Tie as tie
 
-record-of-requires : tie.Need-record-of-requires
-record-of-requires c κs = search needs
-
-report-requires : tie.Need-report-requires
-report-requires c κs = search needs
-
 returns : tie.Need-returns
 returns c =
     let e = c .before .record-of .ensures in
@@ -19,4 +13,4 @@ returns c =
     (t .0 ∙ ap (λ (x : Area). numberOf (reported x .answer)) e, (t .1 .0 ∙ ap (λ (x : Area). reported x .allocated) e, t .1 .1 ∙ ap (λ (x : Area). reported x .free) e))
 
 pub rbu-report-record-spec : {M : Type 1} → statement M
-rbu-report-record-spec = tie.close (tie.spec record-of-requires report-requires returns)
+rbu-report-record-spec = tie.close (tie.spec (λ c κs. search needs) (λ c κs. search needs) returns)

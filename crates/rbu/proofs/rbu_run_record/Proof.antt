@@ -5,21 +5,6 @@ use Rattle.rbu.proofs.Laws.{record-told}
 use Rattle.rbu.proofs.rbu_run_record.Statement.{statement}
 use Rattle.rbu.proofs.rbu_run_record.Tie as tie
 
-record-of-requires : tie.Need-record-of-requires
-record-of-requires c κs = search needs
-
-run-requires : tie.Need-run-requires
-run-requires c κs = search needs
-
-write-state-requires : tie.Need-write-state-requires
-write-state-requires c κs = search needs
-
-same-length : tie.Need-same-length
-same-length c = search needs
-
-same-length-2 : tie.Need-same-length-2
-same-length-2 c = search needs
-
 returns : tie.Need-returns
 returns c =
     let w = c .before .before in
@@ -31,10 +16,4 @@ returns c =
 pub rbu-run-record-spec : {M : Type 1} → statement M
 rbu-run-record-spec =
     tie.close
-    (tie.spec
-    record-of-requires
-    run-requires
-    write-state-requires
-    same-length
-    same-length-2
-    returns)
+    (tie.spec (λ c κs. search needs) (λ c κs. search needs) (λ c κs. search needs) (λ c. search needs) (λ c. search needs) returns)

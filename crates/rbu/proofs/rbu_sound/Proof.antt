@@ -4,14 +4,8 @@ use Rattle.area.specs.Sound.{sound}
 use Rattle.rbu.proofs.rbu_sound.Statement.{statement}
 use Rattle.rbu.proofs.rbu_sound.Tie as tie
 
-record-of-requires : tie.Need-record-of-requires
-record-of-requires c κs = search needs
-
-sound-requires : tie.Need-sound-requires
-sound-requires c κs = search needs
-
 returns : tie.Need-returns
 returns c = c .sound .ensures ∙ ap sound (c .before .record-of .ensures)
 
 pub rbu-sound-spec : {M : Type 1} → statement M
-rbu-sound-spec = tie.close (tie.spec record-of-requires sound-requires returns)
+rbu-sound-spec = tie.close (tie.spec (λ c κs. search needs) (λ c κs. search needs) returns)

@@ -20,17 +20,8 @@ Inv-loop routebytes r p₀ p = (countOf routebytes r ≤ p) × (every p (restIn 
 abbrev μ-loop : tie.MeasureT-loop
 μ-loop routebytes r p₀ p = longestRoute - p
 
-count-of-requires : tie.Need-count-of-requires Inv-loop μ-loop
-count-of-requires c κs = search needs
-
 loop-holds : tie.Need-loop-holds Inv-loop μ-loop
 loop-holds c = (omega arith, rw (c .count-of .ensures) (rest-upto _ _))
-
-add-p : tie.Need-add-p Inv-loop μ-loop
-add-p c = omega arith
-
-route-byte-requires : tie.Need-route-byte-requires Inv-loop μ-loop
-route-byte-requires c κs = omega arith
 
 returns : tie.Need-returns Inv-loop μ-loop
 returns c =
@@ -38,9 +29,6 @@ returns c =
     let a = c .before .before .before .before .before .args in
     let bad = rest-other (now (a .routebytes)) (a .r) (l .p + 1) (omega arith) (λ e. c .if1 .taken (c .before .route-byte .ensures ∙ e)) in
     sym (every-fails _ longestRoute (l .p + 1) (omega arith) (omega arith) bad)
-
-loop-less : tie.Need-loop-less Inv-loop μ-loop
-loop-less c = omega arith
 
 loop-again : tie.Need-loop-again Inv-loop μ-loop
 loop-again c =
@@ -52,4 +40,6 @@ returns-2 c =
 
 pub rest-zero-spec : {M : Type 1} → statement M
 rest-zero-spec =
-    tie.close (tie.spec Inv-loop μ-loop count-of-requires loop-holds add-p route-byte-requires returns loop-less loop-again returns-2)
+    tie.close
+    (tie.spec Inv-loop μ-loop (λ c κs. search needs) loop-holds (λ c. omega arith) (λ c κs. omega arith) returns (λ c. omega arith) loop-again
+    returns-2)

@@ -9,18 +9,6 @@ use Rattle.tables.specs.Tables.{segmentAt}
 use Rattle.routes.proofs.route_byte.Statement.{statement}
 use Rattle.routes.proofs.route_byte.Tie as tie
 
-mul-result : tie.Need-mul-result
-mul-result c = search needs
-
-sub-result : tie.Need-sub-result
-sub-result c = search needs
-
-add-result : tie.Need-add-result
-add-result c = search needs
-
-element-copy-out-result : tie.Need-element-copy-out-result
-element-copy-out-result c = search needs
-
 returns : tie.Need-returns
 unfolding segmentAt
 returns c =
@@ -29,4 +17,4 @@ returns c =
     sym (rw e at (nth-in 0 (now (a .routebytes)) (32 * a .r - 31 + a .p) (omega arith)))
 
 pub route-byte-spec : {M : Type 1} → statement M
-route-byte-spec = tie.close (tie.spec mul-result sub-result add-result element-copy-out-result returns)
+route-byte-spec = tie.close (tie.spec (λ c. search needs) (λ c. search needs) (λ c. search needs) (λ c. search needs) returns)

@@ -18,15 +18,6 @@ abbrev μ-loop : tie.MeasureT-loop
 loop-holds : tie.Need-loop-holds Inv-loop μ-loop
 loop-holds c = (omega arith, sym (every-none _))
 
-route-byte-requires : tie.Need-route-byte-requires Inv-loop μ-loop
-route-byte-requires c κs = omega arith
-
-add-p : tie.Need-add-p Inv-loop μ-loop
-add-p c = omega arith
-
-loop-less : tie.Need-loop-less Inv-loop μ-loop
-loop-less c = omega arith
-
 loop-again : tie.Need-loop-again Inv-loop μ-loop
 loop-again c =
     let l = c .before .before .loop in
@@ -37,4 +28,5 @@ returns : tie.Need-returns Inv-loop μ-loop
 returns c = let l = c .before .loop in let e : l .p ≡ longestRoute + 1 = omega arith in rw e at (l .inv .1) ∙ blank-record _ _
 
 pub unused-route-ok-spec : {M : Type 1} → statement M
-unused-route-ok-spec = tie.close (tie.spec Inv-loop μ-loop loop-holds route-byte-requires add-p loop-less loop-again returns)
+unused-route-ok-spec = tie.close
+    (tie.spec Inv-loop μ-loop loop-holds (λ c κs. omega arith) (λ c. omega arith) (λ c. omega arith) loop-again returns)

@@ -22,29 +22,17 @@ counted c =
     let e = c .before .before in
     record { read = e .before .count-of .ensures; bounds = not-false _ (e .if1 .left); rest = test-holds (c .before .rest-zero .ensures) (c .if2 .left) }
 
-count-of-requires : tie.Need-count-of-requires Inv-loop μ-loop
-count-of-requires c κs = search needs
-
 returns : tie.Need-returns Inv-loop μ-loop
 returns c = bad-count _ _ _ _ (c .before .count-of .ensures) (c .if1 .taken)
 
-rest-zero-requires : tie.Need-rest-zero-requires Inv-loop μ-loop
-rest-zero-requires c κs = search needs
-
 returns-2 : tie.Need-returns-2 Inv-loop μ-loop
 returns-2 c = bad-rest _ _ _ _ (test-fails (c .before .rest-zero .ensures) (c .if2 .taken))
-
-route-byte-requires : tie.Need-route-byte-requires Inv-loop μ-loop
-route-byte-requires c κs = omega arith
 
 returns-3 : tie.Need-returns-3 Inv-loop μ-loop
 returns-3 c = first-fails _ _ _ _ (counted (c .before .before)) (c .before .route-byte .ensures) (c .if3 .taken)
 
 loop-holds : tie.Need-loop-holds Inv-loop μ-loop
 loop-holds c = walk-begin _ _ _ _ (counted (c .before .before)) (c .before .route-byte .ensures) (c .if3 .left)
-
-add-p : tie.Need-add-p Inv-loop μ-loop
-add-p c = omega arith
 
 route-byte-requires-2 : tie.Need-route-byte-requires-2 Inv-loop μ-loop
 route-byte-requires-2 c κs = let f = simp facts at (c .before .loop .inv .counted .bounds) in omega arith
@@ -53,9 +41,6 @@ returns-4 : tie.Need-returns-4 Inv-loop μ-loop
 returns-4 c =
     let l = c .before .before in
     number-fails _ _ _ _ (l .before .loop .inv) (l .loop-test .taken) (c .before .route-byte2 .ensures) (c .if4 .taken)
-
-links-to-requires : tie.Need-links-to-requires Inv-loop μ-loop
-links-to-requires c κs = search needs
 
 -- in a turn of the loop, after the next number is read
 abbrev turn : tie.After-links-to Inv-loop μ-loop → tie.After-route-byte2 Inv-loop μ-loop
@@ -66,9 +51,6 @@ returns-5 c =
     let t = turn (c .before) in
     let l = t .before in
     step-fails _ _ _ _ (l .before .loop .inv) (l .loop-test .taken) (t .route-byte2 .ensures) (c .before .links-to .ensures) (c .if5 .taken)
-
-loop-less : tie.Need-loop-less Inv-loop μ-loop
-loop-less c = omega arith
 
 loop-again : tie.Need-loop-again Inv-loop μ-loop
 loop-again c =
@@ -83,21 +65,5 @@ returns-6 c = walk-over _ _ _ _ (c .before .loop .inv) (c .loop-test .left)
 pub used-route-ok-spec : {M : Type 1} → statement M
 used-route-ok-spec =
     tie.close
-    (tie.spec
-    Inv-loop
-    μ-loop
-    count-of-requires
-    returns
-    rest-zero-requires
-    returns-2
-    route-byte-requires
-    returns-3
-    loop-holds
-    add-p
-    route-byte-requires-2
-    returns-4
-    links-to-requires
-    returns-5
-    loop-less
-    loop-again
-    returns-6)
+    (tie.spec Inv-loop μ-loop (λ c κs. search needs) returns (λ c κs. search needs) returns-2 (λ c κs. omega arith) returns-3 loop-holds
+    (λ c. omega arith) route-byte-requires-2 returns-4 (λ c κs. search needs) returns-5 (λ c. omega arith) loop-again returns-6)

@@ -3,12 +3,9 @@ use borrow.Author.Needs.{needs}
 use Rattle.rules.proofs.is_matched.Statement.{statement}
 use Rattle.rules.proofs.is_matched.Tie as tie
 
-links-to-requires : tie.Need-links-to-requires
-links-to-requires c κs = search needs
-
 returns : tie.Need-returns
 unfolding matched
 returns c = simp (c .links-to .ensures)
 
 pub is-matched-spec : {M : Type 1} → statement M
-is-matched-spec = tie.close (tie.spec links-to-requires returns)
+is-matched-spec = tie.close (tie.spec (λ c κs. search needs) returns)

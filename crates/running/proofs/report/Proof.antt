@@ -5,16 +5,10 @@ use Rattle.answers.specs.Answers.{numberOf}
 use Rattle.running.proofs.report.Statement.{statement}
 use Rattle.running.proofs.report.Tie as tie
 
-report-requires : tie.Need-report-requires
-report-requires c κs = search needs
-
-number-of-requires : tie.Need-number-of-requires
-number-of-requires c κs = search needs
-
 returns : tie.Need-returns
 returns c =
     let e = c .before .report .ensures in
     (c .number-of .ensures ∙ ap (λ (x : Report). numberOf (x .answer)) e, (ap (λ (x : Report). x .allocated) e, ap (λ (x : Report). x .free) e))
 
 pub report-spec : {M : Type 1} → statement M
-report-spec = tie.close (tie.spec report-requires number-of-requires returns)
+report-spec = tie.close (tie.spec (λ c κs. search needs) (λ c κs. search needs) returns)

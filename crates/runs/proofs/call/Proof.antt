@@ -8,42 +8,6 @@ use Rattle.runs.specs.Script.{callOf}
 use Rattle.runs.proofs.call.Statement.{statement}
 use Rattle.runs.proofs.call.Tie as tie
 
-item-at-requires : tie.Need-item-at-requires
-item-at-requires c κs = search needs
-
-item-at-requires-2 : tie.Need-item-at-requires-2
-item-at-requires-2 c κs = search needs
-
-item-at-requires-3 : tie.Need-item-at-requires-3
-item-at-requires-3 c κs = search needs
-
-item-at-requires-4 : tie.Need-item-at-requires-4
-item-at-requires-4 c κs = search needs
-
-item-at-requires-5 : tie.Need-item-at-requires-5
-item-at-requires-5 c κs = search needs
-
-enter-requires : tie.Need-enter-requires
-enter-requires c κs = search needs
-
-leave-requires : tie.Need-leave-requires
-leave-requires c κs = search needs
-
-wishes-of-requires : tie.Need-wishes-of-requires
-wishes-of-requires c κs = search needs
-
-speed-requires : tie.Need-speed-requires
-speed-requires c κs = search needs
-
-request-requires : tie.Need-request-requires
-request-requires c κs = search needs
-
-grant-requires : tie.Need-grant-requires
-grant-requires c κs = search needs
-
-position-requires : tie.Need-position-requires
-position-requires c κs = search needs
-
 returns : tie.Need-returns
 unfolding called callOf
 returns c =
@@ -98,22 +62,6 @@ returns-6 c =
 pub call-spec : {M : Type 1} → statement M
 call-spec =
     tie.close
-    (tie.spec
-    item-at-requires
-    item-at-requires-2
-    item-at-requires-3
-    item-at-requires-4
-    item-at-requires-5
-    enter-requires
-    leave-requires
-    wishes-of-requires
-    speed-requires
-    request-requires
-    grant-requires
-    position-requires
-    returns
-    returns-2
-    returns-3
-    returns-4
-    returns-5
-    returns-6)
+    (tie.spec (λ c κs. search needs) (λ c κs. search needs) (λ c κs. search needs) (λ c κs. search needs) (λ c κs. search needs)
+    (λ c κs. search needs) (λ c κs. search needs) (λ c κs. search needs) (λ c κs. search needs) (λ c κs. search needs) (λ c κs. search needs)
+    (λ c κs. search needs) returns returns-2 returns-3 returns-4 returns-5 returns-6)

@@ -25,12 +25,6 @@ loop-holds c = going-begin _ _ _
 mul-part : tie.Need-mul-part Inv-loop μ-loop
 mul-part c = omega (arith, c .before .loop .inv .fits)
 
-part-requires : tie.Need-part-requires Inv-loop μ-loop
-part-requires c κs = search needs
-
-is-call-requires : tie.Need-is-call-requires Inv-loop μ-loop
-is-call-requires c κs = search needs
-
 same-length : tie.Need-same-length Inv-loop μ-loop
 same-length c = c .before .before .before .before .loop .inv .long
 
@@ -39,18 +33,6 @@ returns c =
     let p = c .before .before in
     let found = c .before .is-call .ensures ∙ ap isCall (p .part .ensures) in
     going-no _ _ _ _ _ _ (p .before .before .loop .inv) (test-fails found (c .if1 .taken))
-
-call-requires : tie.Need-call-requires Inv-loop μ-loop
-call-requires c κs = search needs
-
-number-of-requires : tie.Need-number-of-requires Inv-loop μ-loop
-number-of-requires c κs = search needs
-
-slice-write-answers : tie.Need-slice-write-answers Inv-loop μ-loop
-slice-write-answers c = omega arith
-
-add-k : tie.Need-add-k Inv-loop μ-loop
-add-k c = omega arith
 
 loop-less : tie.Need-loop-less Inv-loop μ-loop
 loop-less c = omega (arith, c .before .before .before .before .before .before .before .loop .inv .long)
@@ -73,20 +55,5 @@ returns-2 c = going-full _ _ _ _ _ _ (c .before .loop .inv) (c .loop-test .left)
 pub run-spec : {M : Type 1} → statement M
 run-spec =
     tie.close
-    (tie.spec
-    Inv-loop
-    μ-loop
-    loop-holds
-    mul-part
-    part-requires
-    is-call-requires
-    same-length
-    returns
-    call-requires
-    number-of-requires
-    slice-write-answers
-    add-k
-    loop-less
-    loop-again
-    same-length-2
-    returns-2)
+    (tie.spec Inv-loop μ-loop loop-holds mul-part (λ c κs. search needs) (λ c κs. search needs) same-length returns (λ c κs. search needs)
+    (λ c κs. search needs) (λ c. omega arith) (λ c. omega arith) loop-less loop-again same-length-2 returns-2)

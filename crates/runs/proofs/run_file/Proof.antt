@@ -5,20 +5,8 @@ use Rattle.runs.proofs.Laws.{file-refused, file-run}
 use Rattle.runs.proofs.run_file.Statement.{statement}
 use Rattle.runs.proofs.run_file.Tie as tie
 
-load-requires : tie.Need-load-requires
-load-requires c κs = search needs
-
-number-of-requires : tie.Need-number-of-requires
-number-of-requires c κs = search needs
-
 returns : tie.Need-returns
 returns c = file-refused _ _ _ _ (c .before .before .before .load .ensures) _ (c .before .number-of .ensures) (c .if1 .taken)
-
-run-requires : tie.Need-run-requires
-run-requires c κs = search needs
-
-same-length : tie.Need-same-length
-same-length c = search needs
 
 returns-2 : tie.Need-returns-2
 returns-2 c =
@@ -29,4 +17,5 @@ returns-2 c =
     file-run _ _ old _ (n .before .before .load .ensures) _ (n .number-of .ensures) (i .if1 .left) _ (r .run .ensures .0) _ (r .run .ensures .1)
 
 pub run-file-spec : {M : Type 1} → statement M
-run-file-spec = tie.close (tie.spec load-requires number-of-requires returns run-requires same-length returns-2)
+run-file-spec = tie.close
+    (tie.spec (λ c κs. search needs) (λ c κs. search needs) returns (λ c κs. search needs) (λ c. search needs) returns-2)

@@ -11,12 +11,6 @@ use Rattle.runs.specs.Script.{itemOf, wishesOf}
 use Rattle.runs.proofs.wishes_of.Statement.{statement}
 use Rattle.runs.proofs.wishes_of.Tie as tie
 
-item-at-requires : tie.Need-item-at-requires
-item-at-requires c κs = search needs
-
-part-requires : tie.Need-part-requires
-part-requires c κs = search needs
-
 returns : tie.Need-returns
 unfolding wishesOf
 returns c =
@@ -27,4 +21,4 @@ returns c =
     c .part .ensures ∙ ap (λ (k : ℕ). take k (drop 7 items)) count
 
 pub wishes-of-spec : {M : Type 1} → statement M
-wishes-of-spec = tie.close (tie.spec item-at-requires part-requires returns)
+wishes-of-spec = tie.close (tie.spec (λ c κs. search needs) (λ c κs. search needs) returns)

@@ -8,9 +8,6 @@ use Rattle.trains.specs.Sound.{toRun}
 use Rattle.soundness.proofs.to_run.Statement.{statement}
 use Rattle.soundness.proofs.to_run.Tie as tie
 
-braking-distance-requires : tie.Need-braking-distance-requires
-braking-distance-requires c κs = search needs
-
 sub-result : tie.Need-sub-result
 sub-result c =
     let a = c .before .before .args in
@@ -25,4 +22,4 @@ unfolding toRun
 returns-2 c = simp (c .before .braking-distance .ensures, ne-eqb _ _ (c .if1 .left))
 
 pub to-run-spec : {M : Type 1} → statement M
-to-run-spec = tie.close (tie.spec braking-distance-requires sub-result returns returns-2)
+to-run-spec = tie.close (tie.spec (λ c κs. search needs) sub-result returns returns-2)

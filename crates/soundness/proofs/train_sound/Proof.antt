@@ -12,15 +12,9 @@ use Rattle.trains.proofs.Soundness.{place-facts}
 use Rattle.soundness.proofs.train_sound.Statement.{statement}
 use Rattle.soundness.proofs.train_sound.Tie as tie
 
-off-sound-requires : tie.Need-off-sound-requires
-off-sound-requires c κs = search needs
-
 returns : tie.Need-returns
 unfolding standsSound
 returns c = simp (c .off-sound .ensures, c .before .if1 .taken)
-
-place-sound-requires : tie.Need-place-sound-requires
-place-sound-requires c κs = search needs
 
 returns-2 : tie.Need-returns-2
 unfolding standsSound
@@ -45,9 +39,6 @@ braking-sound-requires c κs =
     let f = place-facts (s .args .routes) (s .args .spot) (s .args .x) (placed c) in
     (s .pre .0, le-trans (S-mono (s .args .braking) (s .pre .0) _ _ (f .4)) (s .pre .1 (omega arith) (placed c)))
 
-asking-sound-requires : tie.Need-asking-sound-requires
-asking-sound-requires c κs = search needs
-
 returns-3 : tie.Need-returns-3
 unfolding standsSound
 returns-3 c =
@@ -61,11 +52,4 @@ returns-3 c =
 pub train-sound-spec : {M : Type 1} → statement M
 train-sound-spec =
     tie.close
-    (tie.spec
-    off-sound-requires
-    returns
-    place-sound-requires
-    returns-2
-    braking-sound-requires
-    asking-sound-requires
-    returns-3)
+    (tie.spec (λ c κs. search needs) returns (λ c κs. search needs) returns-2 braking-sound-requires (λ c κs. search needs) returns-3)

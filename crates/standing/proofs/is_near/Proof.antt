@@ -11,11 +11,5 @@ returns c =
     let a = c .before .args in
     sym (le-leb (a .length - a .margin) (a .position) (omega arith))
 
-sub-result : tie.Need-sub-result
-sub-result c = search needs
-
-returns-2 : tie.Need-returns-2
-returns-2 c = search needs
-
 pub is-near-spec : {M : Type 1} → statement M
-is-near-spec = tie.close (tie.spec returns sub-result returns-2)
+is-near-spec = tie.close (tie.spec returns (λ c. search needs) (λ c. search needs))

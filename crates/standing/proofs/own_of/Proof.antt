@@ -3,12 +3,9 @@ use borrow.Author.Needs.{needs}
 use Rattle.standing.proofs.own_of.Statement.{statement}
 use Rattle.standing.proofs.own_of.Tie as tie
 
-segment-at-requires : tie.Need-segment-at-requires
-segment-at-requires c κs = search needs
-
 returns : tie.Need-returns
 unfolding ownIn
 returns c = c .segment-at .ensures
 
 pub own-of-spec : {M : Type 1} → statement M
-own-of-spec = tie.close (tie.spec segment-at-requires returns)
+own-of-spec = tie.close (tie.spec (λ c κs. search needs) returns)

@@ -7,23 +7,8 @@ use borrow.Author.Needs.{needs}
 use Rattle.standing.proofs.train_at.Statement.{statement}
 use Rattle.standing.proofs.train_at.Tie as tie
 
-train-off-requires : tie.Need-train-off-requires
-train-off-requires c κs = search needs
-
 returns : tie.Need-returns
 returns c = c .train-off .ensures ∙ sym (nth-zero _ _ _ (c .before .if1 .taken))
-
-sub-i : tie.Need-sub-i
-sub-i c = search needs
-
-mul-result : tie.Need-mul-result
-mul-result c = search needs
-
-array-copy-out-result : tie.Need-array-copy-out-result
-array-copy-out-result c = search needs
-
-train-off-requires-2 : tie.Need-train-off-requires-2
-train-off-requires-2 c κs = search needs
 
 returns-2 : tie.Need-returns-2
 returns-2 c = sym (nth-in _ _ _ (omega arith))
@@ -34,12 +19,5 @@ returns-3 c = let n : length (c .before .before .before .args .t1) ≡ 24 = sear
 pub train-at-spec : {M : Type 1} → statement M
 train-at-spec =
     tie.close
-    (tie.spec
-    train-off-requires
-    returns
-    sub-i
-    mul-result
-    array-copy-out-result
-    train-off-requires-2
-    returns-2
+    (tie.spec (λ c κs. search needs) returns (λ c. search needs) (λ c. search needs) (λ c. search needs) (λ c κs. search needs) returns-2
     returns-3)

@@ -3,12 +3,9 @@ use borrow.Author.Needs.{needs}
 use Rattle.standing.proofs.wanted_of.Statement.{statement}
 use Rattle.standing.proofs.wanted_of.Tie as tie
 
-next-of-requires : tie.Need-next-of-requires
-next-of-requires c κs = search needs
-
 returns : tie.Need-returns
 unfolding wantedIn
 returns c = c .next-of .ensures
 
 pub wanted-of-spec : {M : Type 1} → statement M
-wanted-of-spec = tie.close (tie.spec next-of-requires returns)
+wanted-of-spec = tie.close (tie.spec (λ c κs. search needs) returns)

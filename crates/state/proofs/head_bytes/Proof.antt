@@ -6,18 +6,6 @@ use Rattle.state.proofs.Laws.{head-put}
 use Rattle.state.proofs.head_bytes.Statement.{statement}
 use Rattle.state.proofs.head_bytes.Tie as tie
 
-array-write-head : tie.Need-array-write-head
-array-write-head c = search needs
-
-slice-aggregate-put : tie.Need-slice-aggregate-put
-slice-aggregate-put c = search needs
-
-slice-aggregate-put-2 : tie.Need-slice-aggregate-put-2
-slice-aggregate-put-2 c = search needs
-
-put-requires : tie.Need-put-requires
-put-requires c κs = search needs
-
 returns : tie.Need-returns
 returns c =
     let a = c .before .before .before .before .args in
@@ -26,5 +14,4 @@ returns c =
 
 pub head-bytes-spec : {M : Type 1} → statement M
 head-bytes-spec =
-    tie.close
-    (tie.spec array-write-head slice-aggregate-put slice-aggregate-put-2 put-requires returns)
+    tie.close (tie.spec (λ c. search needs) (λ c. search needs) (λ c. search needs) (λ c κs. search needs) returns)

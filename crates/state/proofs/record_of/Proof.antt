@@ -4,18 +4,6 @@ use Rattle.state.specs.State.{recordOf}
 use Rattle.state.proofs.record_of.Statement.{statement}
 use Rattle.state.proofs.record_of.Tie as tie
 
-tables-of-requires : tie.Need-tables-of-requires
-tables-of-requires c κs = search needs
-
-allocations-of-requires : tie.Need-allocations-of-requires
-allocations-of-requires c κs = search needs
-
-trains-of-requires : tie.Need-trains-of-requires
-trains-of-requires c κs = search needs
-
-byte-requires : tie.Need-byte-requires
-byte-requires c κs = search needs
-
 returns : tie.Need-returns
 unfolding recordOf
 returns c =
@@ -24,5 +12,4 @@ returns c =
 
 pub record-of-spec : {M : Type 1} → statement M
 record-of-spec =
-    tie.close
-    (tie.spec tables-of-requires allocations-of-requires trains-of-requires byte-requires returns)
+    tie.close (tie.spec (λ c κs. search needs) (λ c κs. search needs) (λ c κs. search needs) (λ c κs. search needs) returns)

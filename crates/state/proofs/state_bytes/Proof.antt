@@ -7,24 +7,6 @@ use Rattle.state.proofs.Laws.{state-put}
 use Rattle.state.proofs.state_bytes.Statement.{statement}
 use Rattle.state.proofs.state_bytes.Tie as tie
 
-head-bytes-requires : tie.Need-head-bytes-requires
-head-bytes-requires c κs = search needs
-
-slice-aggregate-put : tie.Need-slice-aggregate-put
-slice-aggregate-put c = search needs
-
-slice-aggregate-put-2 : tie.Need-slice-aggregate-put-2
-slice-aggregate-put-2 c = search needs
-
-put-requires : tie.Need-put-requires
-put-requires c κs = search needs
-
-slice-aggregate-write-trains : tie.Need-slice-aggregate-write-trains
-slice-aggregate-write-trains c = search needs
-
-write-trains-requires : tie.Need-write-trains-requires
-write-trains-requires c κs = search needs
-
 segments : (c : tie.Start) → length (c .args .area .allocations) ≡ 62
 segments c = search needs
 
@@ -42,11 +24,5 @@ returns c =
 pub state-bytes-spec : {M : Type 1} → statement M
 state-bytes-spec =
     tie.close
-    (tie.spec
-    head-bytes-requires
-    slice-aggregate-put
-    slice-aggregate-put-2
-    put-requires
-    slice-aggregate-write-trains
-    write-trains-requires
+    (tie.spec (λ c κs. search needs) (λ c. search needs) (λ c. search needs) (λ c κs. search needs) (λ c. search needs) (λ c κs. search needs)
     returns)

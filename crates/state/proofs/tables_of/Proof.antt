@@ -4,17 +4,11 @@ use Rattle.state.proofs.Laws.{tables-blank, tables-decoded}
 use Rattle.state.proofs.tables_of.Statement.{statement}
 use Rattle.state.proofs.tables_of.Tie as tie
 
-blank-tables-requires : tie.Need-blank-tables-requires
-blank-tables-requires c κs = search needs
-
 returns : tie.Need-returns
 returns c = c .blank-tables .ensures ∙ tables-blank _ (c .before .if1 .taken)
-
-decode-requires : tie.Need-decode-requires
-decode-requires c κs = search needs
 
 returns-2 : tie.Need-returns-2
 returns-2 c = c .decode .ensures ∙ tables-decoded _ (c .before .if1 .left)
 
 pub tables-of-spec : {M : Type 1} → statement M
-tables-of-spec = tie.close (tie.spec blank-tables-requires returns decode-requires returns-2)
+tables-of-spec = tie.close (tie.spec (λ c κs. search needs) returns (λ c κs. search needs) returns-2)

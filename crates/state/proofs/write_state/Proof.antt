@@ -8,18 +8,6 @@ use Rattle.state.proofs.Back.{state-back}
 use Rattle.state.proofs.write_state.Statement.{statement}
 use Rattle.state.proofs.write_state.Tie as tie
 
-state-bytes-requires : tie.Need-state-bytes-requires
-state-bytes-requires c κs = search needs
-
-slice-aggregate-put : tie.Need-slice-aggregate-put
-slice-aggregate-put c = search needs
-
-put-requires : tie.Need-put-requires
-put-requires c κs = search needs
-
-same-length : tie.Need-same-length
-same-length c = search needs
-
 returns : tie.Need-returns
 unfolding stateInto
 returns c =
@@ -32,4 +20,4 @@ returns c =
 
 pub write-state-spec : {M : Type 1} → statement M
 write-state-spec =
-    tie.close (tie.spec state-bytes-requires slice-aggregate-put put-requires same-length returns)
+    tie.close (tie.spec (λ c κs. search needs) (λ c. search needs) (λ c κs. search needs) (λ c. search needs) returns)

@@ -18,37 +18,16 @@ past : (length : ℕ) (x : Train) → movesIn length x ≡ true → length ≤ x
 unfolding movesIn
 past length x e = leb-true length (x .position + x .speed) (and-eq-true-iff (isOn x) (leb length (x .position + x .speed)) .0 e .1)
 
-run-to-requires : tie.Need-run-to-requires
-run-to-requires c κs = search needs
-
-moves-on-requires : tie.Need-moves-on-requires
-moves-on-requires c κs = search needs
-
-add-moved-to : tie.Need-add-moved-to
-add-moved-to c = search needs
-
 sub-moved-to : tie.Need-sub-moved-to
 sub-moved-to c =
     let m = c .before .before in
     omega (arith, past _ _ (sym (m .moves-on .ensures) ∙ c .before .if1 .taken), m .before .run-to .ensures)
-
-cast-moved-to : tie.Need-cast-moved-to
-cast-moved-to c = search needs
-
-moved-to-requires : tie.Need-moved-to-requires
-moved-to-requires c κs = search needs
 
 returns : tie.Need-returns
 unfolding movedIn
 returns c =
     let m = c .before .before .before in
     rw (sym (m .moves-on .ensures) ∙ c .before .before .if1 .taken) (rw (m .before .run-to .ensures) at (c .moved-to .ensures))
-
-cast-moved-to-2 : tie.Need-cast-moved-to-2
-cast-moved-to-2 c = search needs
-
-moved-to-requires-2 : tie.Need-moved-to-requires-2
-moved-to-requires-2 c κs = search needs
 
 returns-2 : tie.Need-returns-2
 unfolding movedIn
@@ -59,14 +38,5 @@ returns-2 c =
 pub moved-train-spec : {M : Type 1} → statement M
 moved-train-spec =
     tie.close
-    (tie.spec
-    run-to-requires
-    moves-on-requires
-    add-moved-to
-    sub-moved-to
-    cast-moved-to
-    moved-to-requires
-    returns
-    cast-moved-to-2
-    moved-to-requires-2
-    returns-2)
+    (tie.spec (λ c κs. search needs) (λ c κs. search needs) (λ c. search needs) sub-moved-to (λ c. search needs) (λ c κs. search needs)
+    returns (λ c. search needs) (λ c κs. search needs) returns-2)

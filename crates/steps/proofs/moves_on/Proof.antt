@@ -3,12 +3,9 @@ use Rattle.trains.specs.Cycle.{movesIn}
 use Rattle.steps.proofs.moves_on.Statement.{statement}
 use Rattle.steps.proofs.moves_on.Tie as tie
 
-run-to-requires : tie.Need-run-to-requires
-run-to-requires c κs = search needs
-
 returns : tie.Need-returns
 unfolding movesIn
 returns c = simp (c .run-to .ensures)
 
 pub moves-on-spec : {M : Type 1} → statement M
-moves-on-spec = tie.close (tie.spec run-to-requires returns)
+moves-on-spec = tie.close (tie.spec (λ c κs. search needs) returns)

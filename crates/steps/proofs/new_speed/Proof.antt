@@ -4,21 +4,9 @@ use Rattle.trains.specs.Cycle.{newSpeed}
 use Rattle.steps.proofs.new_speed.Statement.{statement}
 use Rattle.steps.proofs.new_speed.Tie as tie
 
-lowered-requires : tie.Need-lowered-requires
-lowered-requires c κs = search needs
-
 returns : tie.Need-returns
 unfolding newSpeed
 returns c = rw (c .if1 .taken) (c .before .before .before .lowered .ensures)
-
-upper-end-requires : tie.Need-upper-end-requires
-upper-end-requires c κs = search needs
-
-smaller-requires : tie.Need-smaller-requires
-smaller-requires c κs = search needs
-
-larger-requires : tie.Need-larger-requires
-larger-requires c κs = search needs
 
 returns-2 : tie.Need-returns-2
 unfolding newSpeed
@@ -28,5 +16,4 @@ returns-2 c =
 
 pub new-speed-spec : {M : Type 1} → statement M
 new-speed-spec =
-    tie.close
-    (tie.spec lowered-requires returns upper-end-requires smaller-requires larger-requires returns-2)
+    tie.close (tie.spec (λ c κs. search needs) returns (λ c κs. search needs) (λ c κs. search needs) (λ c κs. search needs) returns-2)

@@ -6,15 +6,9 @@ use Rattle.steps.proofs.requested_train.Tie as tie
 returns : tie.Need-returns
 returns c = rw (train-off (c .if1 .taken))
 
-wants-next-requires : tie.Need-wants-next-requires
-wants-next-requires c κs = search needs
-
-with-asking-requires : tie.Need-with-asking-requires
-with-asking-requires c κs = search needs
-
 returns-2 : tie.Need-returns-2
 returns-2 c = simp (train-on (c .before .before .if1 .left), c .with-asking .ensures, c .before .wants-next .ensures)
 
 pub requested-train-spec : {M : Type 1} → statement M
 requested-train-spec =
-    tie.close (tie.spec returns wants-next-requires with-asking-requires returns-2)
+    tie.close (tie.spec returns (λ c κs. search needs) (λ c κs. search needs) returns-2)

@@ -9,17 +9,11 @@ use Rattle.summary.proofs.Laws.{ones-of, zeros-of, ones-fit, zeros-fit,
 use Rattle.summary.proofs.summary_of.Statement.{statement}
 use Rattle.summary.proofs.summary_of.Tie as tie
 
-word-of-requires : tie.Need-word-of-requires
-word-of-requires c κs = search needs
-
 cast-allocated : tie.Need-cast-allocated
 cast-allocated c = record { fits = ones-fit _ (search needs) }
 
 cast-taken : tie.Need-cast-taken
 cast-taken c = record { fits = zeros-fit _ }
-
-add-t9 : tie.Need-add-t9
-add-t9 c = omega arith
 
 returns : tie.Need-returns
 unfolding summaryOf
@@ -43,4 +37,4 @@ returns-2 c =
 
 pub summary-of-spec : {M : Type 1} → statement M
 summary-of-spec =
-    tie.close (tie.spec word-of-requires cast-allocated cast-taken add-t9 returns returns-2)
+    tie.close (tie.spec (λ c κs. search needs) cast-allocated cast-taken (λ c. omega arith) returns returns-2)

@@ -18,28 +18,16 @@ abbrev μ-loop : tie.MeasureT-loop
 loop-holds : tie.Need-loop-holds Inv-loop μ-loop
 loop-holds c = (word-begin (c .args .t1) 62 (search needs), omega arith)
 
-sub-i : tie.Need-sub-i Inv-loop μ-loop
-sub-i c = omega arith
-
 mul-word : tie.Need-mul-word Inv-loop μ-loop
 mul-word c =
     let w = word-fits (c .before .before .args .t1) (c .before .loop .i) _ (search needs) (c .before .loop .inv .0) in
     omega arith
-
-array-read-bit-of : tie.Need-array-read-bit-of Inv-loop μ-loop
-array-read-bit-of c = omega arith
-
-bit-of-requires : tie.Need-bit-of-requires Inv-loop μ-loop
-bit-of-requires c κs = search needs
 
 add-word : tie.Need-add-word Inv-loop μ-loop
 add-word c =
     let at = c .before .before in
     let w = word-fits (at .before .args .t1) (at .loop .i) _ (search needs) (at .loop .inv .0) in
     omega (arith, bit-small _ _ (c .bit-of .ensures))
-
-loop-less : tie.Need-loop-less Inv-loop μ-loop
-loop-less c = omega arith
 
 loop-again : tie.Need-loop-again Inv-loop μ-loop
 loop-again c =
@@ -54,15 +42,5 @@ returns c = word-over _ _ _ (c .loop-test .left) (c .before .loop .inv .0)
 pub word-of-spec : {M : Type 1} → statement M
 word-of-spec =
     tie.close
-    (tie.spec
-    Inv-loop
-    μ-loop
-    loop-holds
-    sub-i
-    mul-word
-    array-read-bit-of
-    bit-of-requires
-    add-word
-    loop-less
-    loop-again
-    returns)
+    (tie.spec Inv-loop μ-loop loop-holds (λ c. omega arith) mul-word (λ c. omega arith) (λ c κs. search needs) add-word (λ c. omega arith)
+    loop-again returns)

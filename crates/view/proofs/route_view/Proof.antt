@@ -8,24 +8,6 @@ use Rattle.view.proofs.View.{view-within}
 use Rattle.view.proofs.route_view.Statement.{statement}
 use Rattle.view.proofs.route_view.Tie as tie
 
-view-of-requires : tie.Need-view-of-requires
-view-of-requires c κs = search needs
-
-cast-start : tie.Need-cast-start
-cast-start c = search needs
-
-cast-count : tie.Need-cast-count
-cast-count c = search needs
-
-add-result : tie.Need-add-result
-add-result c = search needs
-
-sub-result : tie.Need-sub-result
-sub-result c = search needs
-
-part-result-start : tie.Need-part-result-start
-part-result-start c = search needs
-
 part-result-end : tie.Need-part-result-end
 part-result-end c =
     let a = c .before .before .before .before .args in
@@ -42,12 +24,5 @@ returns c =
 pub route-view-spec : {M : Type 1} → statement M
 route-view-spec =
     tie.close
-    (tie.spec
-    view-of-requires
-    cast-start
-    cast-count
-    add-result
-    sub-result
-    part-result-start
-    part-result-end
-    returns)
+    (tie.spec (λ c κs. search needs) (λ c. search needs) (λ c. search needs) (λ c. search needs) (λ c. search needs) (λ c. search needs)
+    part-result-end returns)

@@ -14,9 +14,6 @@ use Rattle.view.proofs.view_of.Tie as tie
 on : (c : tie.Else1) → shown (now (c .before .before .before .args .file)) (c .before .before .before .args .route) ≡ true
 on c = test-holds (c .before .is-shown .ensures) (c .if1 .left)
 
-is-shown-requires : tie.Need-is-shown-requires
-is-shown-requires c κs = search needs
-
 returns : tie.Need-returns
 returns c =
     let v = view-off _ _ (test-fails (c .before .is-shown .ensures) (c .if1 .taken)) in
@@ -27,18 +24,6 @@ sub-route-start c = let s = shown-facts _ _ (on c) in omega (arith, s .low)
 
 route-start-requires : tie.Need-route-start-requires
 route-start-requires c κs = let s = shown-facts _ _ (on c) in omega (arith, s .low, s .most)
-
-cast-t8 : tie.Need-cast-t8
-cast-t8 c = search needs
-
-add-t9 : tie.Need-add-t9
-add-t9 c = search needs
-
-byte-requires : tie.Need-byte-requires
-byte-requires c κs = search needs
-
-cast-t11 : tie.Need-cast-t11
-cast-t11 c = search needs
 
 returns-2 : tie.Need-returns-2
 returns-2 c =
@@ -53,13 +38,5 @@ returns-2 c =
 pub view-of-spec : {M : Type 1} → statement M
 view-of-spec =
     tie.close
-    (tie.spec
-    is-shown-requires
-    returns
-    sub-route-start
-    route-start-requires
-    cast-t8
-    add-t9
-    byte-requires
-    cast-t11
-    returns-2)
+    (tie.spec (λ c κs. search needs) returns sub-route-start route-start-requires (λ c. search needs) (λ c. search needs)
+    (λ c κs. search needs) (λ c. search needs) returns-2)
