@@ -5,13 +5,43 @@ ghost use mathlib.Core.Bool.{not};
 ghost use mathlib.Core.List.{_∷_};
 ghost use Rattle.lists.specs.Tests.{_⇒_, firstOf};
 ghost use Rattle.tables.specs.declared.Tables.{Tables};
-ghost use Rattle.trains.specs.EnterLeave.{firstSegment, entryTests, exitTests};
+ghost use Rattle.trains.specs.EnterLeave.{firstSegment, journeyTests, entryTests, exitTests};
 use trains::Train;
 
 // The refusal's number, and the segment that is entered where it is 0: handed on, so that the route is not read again.
 pub struct Entry {
     pub number: u8,
     pub first: u8,
+}
+
+// What enter asks of the journey, of the speed and of the route's first segment: the tests that come after the train's own.
+pub fn journey_refusal<'a>(
+    routes: u8,
+    routebytes: &'a [u8; 960],
+    flags: &'a [u8; 62],
+    limits: &'a [u16; 62],
+    allocations: &'a [u8; 62],
+    route: u16,
+    speed: u16,
+    length: u16,
+) -> Entry
+    ensures { λ r. ⌜ ((T : Tables) → T .routes ≡ routes → T .routebytes ≡ now (routebytes .entry) → T .flags ≡ now (flags .entry) → T .limits ≡ now (limits .entry) → (r .number ≡ firstOf (journeyTests T (now (allocations .entry)) (record { route = route; length = length }) speed) .number) × (r .number ≡ 0 → r .first ≡ firstSegment T route)) ⌝ }
+{
+    if (route == 0) | ((routes as u16) < route) {
+        return Entry {
+            number: 16,
+            first: 0,
+        };
+    }
+    if (length == 0) | (20000 < length) {
+        return Entry {
+            number: 23,
+            first: 0,
+        };
+    }
+    let first = lookups::segment_at(routebytes, route as u8, 1);
+    let number = enter_leave::first_segment_refusal(flags, allocations, limits, first, speed);
+    Entry { number, first }
 }
 
 pub fn enter_refusal<'a>(
@@ -48,21 +78,16 @@ pub fn enter_refusal<'a>(
             first: 0,
         };
     }
-    if (route == 0) | ((routes as u16) < route) {
-        return Entry {
-            number: 16,
-            first: 0,
-        };
-    }
-    if (length == 0) | (20000 < length) {
-        return Entry {
-            number: 23,
-            first: 0,
-        };
-    }
-    let first = lookups::segment_at(routebytes, route as u8, 1);
-    let number = enter_leave::first_segment_refusal(flags, allocations, limits, first, speed);
-    Entry { number, first }
+    journey_refusal(
+        routes,
+        routebytes,
+        flags,
+        limits,
+        allocations,
+        route,
+        speed,
+        length,
+    )
 }
 
 pub fn leave_refusal<'a>(

@@ -19,7 +19,7 @@ use Rattle.trains.specs.Cycle.{movesIn, movesOn, movedIn, moved, released, free
 use Rattle.trains.specs.Way.{wayOf}
 use Rattle.trains.specs.FreedFacts.{RearPasses}
 use Rattle.trains.proofs.Laws.{on-numbered}
-use Rattle.trains.proofs.Safety.{Moved}
+use Rattle.trains.proofs.Moved.{Moved}
 use Rattle.trains.proofs.Freed.{Movable, sound-movable, is-moved, released-iff, one-freed, outside-frees-none, long-frees-none}
 use Rattle.trains.proofs.Calls.{left-freed, others-stay}
 use Rattle.area.specs.declared.Area.{Area}

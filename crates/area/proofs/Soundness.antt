@@ -19,7 +19,8 @@ use Rattle.trains.specs.Spot.{spotOf}
 use Rattle.trains.specs.Cycle.{low, upperEnd}
 use Rattle.trains.specs.Sound.{trainSound, allocationSound}
 use Rattle.trains.proofs.Laws.{on-numbered}
-use Rattle.trains.proofs.Safety.{own-is, low-high}
+use Rattle.trains.proofs.Safety.{own-is}
+use Rattle.trains.proofs.SafeSpeed.{low-high}
 use Rattle.trains.specs.SoundFacts.{SoundTrain}
 use Rattle.trains.proofs.Soundness.{train-iff, off-iff, allocation-iff}
 use Rattle.steps.specs.Room.{Room}

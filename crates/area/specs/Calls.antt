@@ -2,16 +2,15 @@
 -- order, of which the first that holds is the answer, and the record that it hands back when none holds; a refusal hands back the record
 -- as it came.
 use Prim.Native.Nat.{ℕ}
-use mathlib.Core.Bool.{Bool, not}
-use mathlib.Core.List.{List, [], _∷_}
-use lib.Dec.{eqb}
+use mathlib.Core.Bool.{not}
+use mathlib.Core.List.{List, _∷_}
 use lib.ListN.{length}
 use Rattle.lists.specs.Words.{if_then_else_, each}
 use Rattle.lists.specs.Tests.{Test, _⇒_, firstOf}
 use Rattle.summary.specs.Summary.{summaryOf}
 use Rattle.trains.specs.Due.{speedDue, requestDue, grantDue, positionDue}
-use Rattle.trains.specs.Train.{mostTrains, Journey, off, entered}
-use Rattle.trains.specs.Cycle.{sped, requested, moved, freed}
+use Rattle.trains.specs.Train.{Journey, off, entered}
+use Rattle.trains.specs.Cycle.{dueTests, wishTests, sped, requested, moved, freed}
 use Rattle.trains.specs.Grant.{granted, calmed}
 use Rattle.trains.specs.EnterLeave.{firstSegment, takenBy, freedBy, becomes, entryTests, exitTests}
 use Rattle.area.specs.declared.Area.{Area}
@@ -31,10 +30,6 @@ outcome tests new old = outcomeBy (firstOf tests) new old
 -- an outcome without the tables, which are those handed in
 abbrev pub changeOf : Outcome → Change
 changeOf o = record { number = numberOf (o .answer); allocations = o .area .allocations; trains = o .area .trains; due = o .area .due }
-
--- 12: a cycle step not due
-abbrev pub notDue : ℕ → Area → Bool
-notDue step a = not (eqb (a .due) step)
 
 -- ---- enter (train t, journey j, speed v)
 abbrev pub enterTests : Area → ℕ → Journey → ℕ → List Test
@@ -65,7 +60,7 @@ leaveCall a t = outcome (leaveTests a t) (afterLeave a t) a
 
 -- ---- speed, with wishes
 abbrev pub speedTests : Area → List ℕ → List Test
-speedTests a wishes = not (sound a) ⇒ 11 ∷ notDue speedDue a ⇒ 12 ∷ not (eqb (length wishes) mostTrains) ⇒ 21 ∷ []
+speedTests a wishes = not (sound a) ⇒ 11 ∷ wishTests (a .due) (length wishes)
 
 unfoldable pub afterSpeed : Area → List ℕ → Area
 afterSpeed a wishes =
@@ -81,7 +76,7 @@ speedCall a wishes = outcome (speedTests a wishes) (afterSpeed a wishes) a
 
 -- ---- request, grant, position
 abbrev pub stepTests : ℕ → Area → List Test
-stepTests step a = not (sound a) ⇒ 11 ∷ notDue step a ⇒ 12 ∷ []
+stepTests step a = not (sound a) ⇒ 11 ∷ dueTests step (a .due)
 
 unfoldable pub afterRequest : Area → Area
 afterRequest a =

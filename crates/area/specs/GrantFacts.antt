@@ -7,7 +7,7 @@ use Rattle.lists.specs.Words.{at}
 use Rattle.tables.specs.Bounds.{mostSegments}
 use Rattle.trains.specs.Train.{mostTrains, answered, trainAt}
 use Rattle.trains.specs.Order.{goesBefore}
-use Rattle.trains.specs.Grant.{trainCount, mostCount}
+use Rattle.trains.specs.Grant.{trainCount}
 use Rattle.trains.specs.GrantFacts.{AsksFor}
 use Rattle.area.specs.declared.Area.{Area}
 
@@ -32,7 +32,7 @@ module _ (a b : Area) where
 
   -- one more, "stops at 65,535"
   abbrev pub oneMore : ℕ → ℕ
-  oneMore t = min (count t + 1) mostCount
+  oneMore t = min (count t + 1) 65535
 
   pub record GrantFacts : Type 0 where
     -- who has a segment keeps it

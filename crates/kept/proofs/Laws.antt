@@ -20,19 +20,14 @@ use Rattle.loading.proofs.Loading.{done-iff, refused-blank}
 use Rattle.loading.proofs.Fresh.{blank-unsound}
 use Rattle.separation.specs.Calls.{Call, Enter, Leave, Speed, Request, Grant, Position, called}
 use Rattle.separation.specs.Runs.{World, next, afterFrom, begin, after}
+use Rattle.separation.proofs.Lists.{from-more}
 use Rattle.separation.proofs.Demand3.{demand3}
 use Rattle.separation.proofs.Tables.{called-tables}
 use Rattle.kept.specs.Kept.{Reached, Kept, Answered, Started, changed}
 
--- the list worked through with a call at its end is that call after the list
-from-more : (w : World) (calls : List Call) (c : Call) → afterFrom w (calls ++ (c ∷ [])) ≡ next (afterFrom w calls) c
-unfolding afterFrom
-from-more w [] c = refl
-from-more w (d ∷ calls) c = from-more (next w d) calls c
-
 area-more : (file : List ℕ) (calls : List Call) (c : Call) → after file (calls ++ (c ∷ [])) .area ≡ called (after file calls .area) c .area
-unfolding after next
-area-more file calls c = ap (λ (w : World). w .area) (from-more (begin (loaded file .area)) calls c)
+unfolding after afterFrom next
+area-more file calls c = ap (λ (w : World). w .area) (from-more (begin (loaded file .area)) calls (c ∷ []))
 
 -- a record with other tables
 abbrev with-tables : Tables → Area → Area

@@ -2,8 +2,8 @@
 ghost use mathlib.Core.Path.{_≡_};
 ghost use Prim.Native.Nat.{_≤_};
 ghost use lib.Dec.{leb};
-ghost use Rattle.braking.specs.Braking.{S};
 ghost use Rattle.tables.specs.Bounds.{bounds};
+ghost use Rattle.tables.specs.Tables.{distanceIn};
 ghost use Rattle.tables.specs.Rules.{headerIn, linksOk, usedOk, unusedOk, rowOk};
 use tables::FASTEST;
 use tables::LONGEST;
@@ -29,7 +29,7 @@ pub fn header_ok(segments: u8, routes: u8, gmax: u16, braking: u16, margin: u32)
 
 pub fn margin_ok(gmax: u16, braking: u16, margin: u32) -> bool
     requires { ⌜ 1 ≤ braking ⌝ }
-    ensures { λ r. ⌜ r ≡ leb (S braking gmax) margin ⌝ }
+    ensures { λ r. ⌜ r ≡ leb (distanceIn braking gmax) margin ⌝ }
 {
     braking::braking_distance(gmax, braking) <= margin
 }

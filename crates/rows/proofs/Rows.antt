@@ -3,7 +3,7 @@ use Prim.Native.Nat.{ℕ}
 use mathlib.Core.Path.{_≡_, refl, ap, _∙_}
 use mathlib.Core.Bool.{Bool, true, false, _&&_}
 use mathlib.Core.List.{List, [], _∷_}
-use lib.Dec.{ltb}
+use lib.Dec.{leb, ltb}
 use lib.ListN.{replicate}
 use Rattle.lists.specs.Words.{if_then_else_, nth, at, each, every, least}
 use Rattle.lists.specs.Tests.{firstOf}
@@ -17,9 +17,11 @@ use Rattle.tables.proofs.Consistency.{meets-iff}
 use Rattle.decoding.specs.Decoding.{decoded}
 use Rattle.tables.specs.declared.Tables.{Tables}
 use Rattle.trains.specs.declared.Train.{Train}
-use Rattle.trains.specs.Due.{positionDue}
-use Rattle.trains.specs.Train.{lengthOk, off, trainAt, ownIn, nextIn, rearFrom, rearIn, occupiedIn, holdsAllIn, aheadIn}
+use Rattle.trains.specs.Due.{grantDue, positionDue}
+use Rattle.trains.specs.Train.{lengthOk, off, trainAt, ownIn, nextIn, rearFrom, rearIn, occupiedIn, holdsAllIn, aheadIn, wantedIn}
 use Rattle.trains.specs.Cycle.{wants, movesIn, movedIn, moved, released, freed}
+use Rattle.trains.specs.Order.{goesBefore, foremost}
+use Rattle.trains.specs.Grant.{asked, served, granted, countAfter, calmed}
 use Rattle.trains.specs.EnterLeave.{entryTests}
 use Rattle.trains.specs.Sound.{placeSound, toRun, brakingSound, askingSound, standsSound, trainSound, allocationSound}
 use Rattle.answers.specs.declared.Answer.the-variants.{Done, Refused}
@@ -29,7 +31,7 @@ use Rattle.loading.specs.Load.{fresh, loaded}
 use Rattle.loading.specs.Before.{loadedWithin}
 use Rattle.area.specs.declared.Area.{Area}
 use Rattle.area.specs.Sound.{sound}
-use Rattle.area.specs.Calls.{afterEnter, enterCall, afterPosition, positionCall}
+use Rattle.area.specs.Calls.{afterEnter, enterCall, afterGrant, grantCall, afterPosition, positionCall}
 use Rattle.reading.specs.Verdict.{verdict}
 use Rattle.reading.proofs.Accepted.{accepted-iff}
 use Rattle.loading.proofs.Loading.{done-iff}
@@ -37,7 +39,7 @@ use Rattle.loading.proofs.Fresh.{fresh-sound}
 use Rattle.separation.specs.Calls.{Enter, called}
 use Rattle.separation.specs.Runs.{World, noted, worldBy, next, afterFrom, begin, after}
 use Rattle.separation.proofs.Demand3.{file-fresh, from-fresh}
-use Rattle.rows.specs.AreaA.{header, segments, file, headerA, segmentsA, headerFast, segmentsFast, segmentsSlow, segments1000, segments1, moving, on, line}
+use Rattle.rows.specs.AreaA.{header, segments, file, headerA, segmentsA, headerFast, segmentsFast, segmentsSlow, segments1000, segments1, moving, merging, beyond, on, line}
 use Rattle.rows.specs.Table.{holds, allHold, table}
 use Rattle.rows.proofs.AreaA.{tablesOf, tables, left, found, answered}
 
@@ -147,10 +149,26 @@ two-due : loaded (file (header 2000 1 2000999 237 101) (segments 4000001 2000 40
 unfolding found left answerOf
 two-due = load-answer _ ∙ answered 2000 1 2000999 237 101 4000001 2000 4000001 2000 4000001 2000 109 78 bounds (left 0 true false 0 0) refl
 
--- a record of Area A with position due: its tables are those of a file that passes
+-- a record of Area A: its tables are those of a file that passes
 tables-A : meets (decoded (file headerA segmentsA)) ≡ true
 tables-A = meets-iff _ .1 (done-iff _ .0 (ap numberOf area-A) .tables)
 
+abbrev T : Tables
+T = tablesOf 300 10 4650 6000 300 5500 290 8000 290
+
+-- a record of Area A is sound where its step due, its trains and its allocations are
+abbrev inA : (A : List ℕ) (X : List Train) (due : ℕ) → Area
+inA A X due = record { tables = decoded (file headerA segmentsA); allocations = A; trains = X; due = due }
+
+abbrev partsSound : (A : List ℕ) (X : List Train) (due : ℕ) → Bool
+partsSound A X due =
+    leb due positionDue && every 24 (λ (t : ℕ). trainSound T A due t (trainAt X t)) && every 62 (λ (s : ℕ). allocationSound T X s (at A s))
+
+is-sound : (A : List ℕ) (X : List Train) (due : ℕ) → sound (inA A X due) ≡ partsSound A X due
+unfolding sound
+is-sound A X due = rw (tables-A, tables)
+
+-- with position due
 module _ (place position speed length first third : ℕ) where
   abbrev before : Area
   before = moving place position speed length first third
@@ -161,28 +179,54 @@ module _ (place position speed length first third : ℕ) where
   abbrev X : List Train
   X = record { route = 1; place = place; position = position; speed = speed; length = length; asks = 0; count = 0 } ∷ replicate 23 off
 
-  abbrev T : Tables
-  T = tablesOf 300 10 4650 6000 300 5500 290 8000 290
+  abbrev movingSound : Bool
+  movingSound = partsSound A X positionDue
 
-  -- it is sound where its trains and its allocations are
-  abbrev partsSound : Bool
-  partsSound = every 24 (λ (t : ℕ). trainSound T A positionDue t (trainAt X t)) && every 62 (λ (s : ℕ). allocationSound T X s (at A s))
-
-  is-sound : sound before ≡ partsSound
-  unfolding sound moving
-  is-sound = rw (tables-A, tables)
-
-  moved-on : partsSound ≡ true → trainAt (positionCall before .area .trains) 1 ≡ moved T (trainAt X 1)
+  moved-on : movingSound ≡ true → trainAt (positionCall before .area .trains) 1 ≡ moved T (trainAt X 1)
   unfolding positionCall afterPosition moving each nth
-  moved-on ok = rw (is-sound ∙ ok, tables)
+  moved-on ok = rw (is-sound A X positionDue ∙ ok, tables)
 
-  held-by : partsSound ≡ true → at (positionCall before .area .allocations) 1 ≡ freed T X 1 first
+  held-by : movingSound ≡ true → at (positionCall before .area .allocations) 1 ≡ freed T X 1 first
   unfolding positionCall afterPosition moving each nth
-  held-by ok = rw (is-sound ∙ ok, tables)
+  held-by ok = rw (is-sound A X positionDue ∙ ok, tables)
 
-  answered-by : numberOf (positionCall before .answer) ≡ (if partsSound then 0 else 11)
+  answered-by : numberOf (positionCall before .answer) ≡ (if movingSound then 0 else 11)
   unfolding positionCall moving answerOf
-  answered-by = rw is-sound (by-test partsSound (λ e. rw e) (λ e. rw e))
+  answered-by = rw (is-sound A X positionDue) (by-test movingSound (λ e. rw e) (λ e. rw e))
+
+-- with grant due, both trains before the merge
+module _ (count1 count2 third : ℕ) (train3 : Train) where
+  abbrev merge : Area
+  merge = merging count1 count2 third train3
+
+  abbrev Aₘ : List ℕ
+  Aₘ = 1 ∷ 2 ∷ third ∷ replicate 59 0
+
+  abbrev Xₘ : List Train
+  Xₘ =
+      record { route = 1; place = 1; position = 1350; speed = 0; length = 1; asks = 1; count = count1 }
+      ∷ record { route = 2; place = 1; position = 850; speed = 0; length = 1; asks = 1; count = count2 }
+      ∷ train3
+      ∷ replicate 21 off
+
+  abbrev mergeSound : Bool
+  mergeSound = partsSound Aₘ Xₘ grantDue
+
+  -- what a grant makes of it: who holds segment 3, and what trains 1 and 2 count
+  abbrev Merged : (holder after1 after2 : ℕ) → Type 0
+  Merged holder after1 after2 =
+      (at (grantCall merge .area .allocations) 3 ≡ holder)
+      × (trainAt (grantCall merge .area .trains) 1 .count ≡ after1)
+      × (trainAt (grantCall merge .area .trains) 2 .count ≡ after2)
+
+  abbrev countOfₘ : ℕ → ℕ
+  countOfₘ t = calmed T Aₘ (each (granted T Xₘ) Aₘ) t (trainAt Xₘ t) .count
+
+  merged :
+      (holder after1 after2 : ℕ) → mergeSound ≡ true → granted T Xₘ 3 third ≡ holder → countOfₘ 1 ≡ after1 → countOfₘ 2 ≡ after2
+      → Merged holder after1 after2
+  unfolding grantCall afterGrant merging each nth
+  merged holder after1 after2 ok h c d = rw (is-sound Aₘ Xₘ grantDue ∙ ok, tables) (h, c, d)
 
 -- train 1 enters the area that load makes of a file of Area A's shape, at a speed that segment 1 allows
 module _ (gmax b d first0 second0 length1 limit1 length2 limit2 length3 limit3 first1 second1 l v : ℕ) where
@@ -218,10 +262,28 @@ module _ (gmax b d first0 second0 length1 limit1 length2 limit2 length3 limit3 f
 
 -- the records of Area A that a position step moves are sound
 sounds :
-    (partsSound 1 5710 290 1 1 1 ≡ true) × (partsSound 2 0 1 1 1 1 ≡ true) × (partsSound 2 5989 10 6000 1 1 ≡ true)
-    × (partsSound 2 5990 10 6000 1 1 ≡ true) × (partsSound 2 7980 10 20000 1 1 ≡ true)
+    (movingSound 1 5710 290 1 1 1 ≡ true) × (movingSound 2 0 1 1 1 1 ≡ true) × (movingSound 2 5989 10 6000 1 1 ≡ true)
+    × (movingSound 2 5990 10 6000 1 1 ≡ true) × (movingSound 2 7980 10 20000 1 1 ≡ true)
 unfolding tablesOf every least standsSound placeSound brakingSound askingSound allocationSound toRun wants ownIn nextIn rearIn rearFrom holdsAllIn occupiedIn aheadIn countOf segmentAt nth S fallingSum
 sounds = (refl, refl, refl, refl, refl)
+
+-- and so are those of the merge
+merges : (c d : ℕ) → (mergeSound c d 0 off ≡ true) × (mergeSound c d 3 beyond ≡ true)
+unfolding tablesOf every least standsSound placeSound brakingSound askingSound allocationSound toRun wants ownIn nextIn rearIn rearFrom holdsAllIn occupiedIn aheadIn countOf segmentAt nth S fallingSum
+merges c d = (refl, refl)
+
+mergers :
+    Merged 0 0 0 off 2 1 0 × Merged 7 7 0 off 2 8 0 × Merged 1 0 0 off 1 0 1 × Merged 7 8 0 off 2 8 0 × Merged 65534 65535 0 off 2 65535 0
+    × Merged 65534 65535 3 beyond 3 65535 65535
+unfolding tablesOf granted calmed asked served foremost goesBefore countAfter wantedIn nextIn countOf segmentAt nth each
+mergers = (
+  merged 0 0 0 off 2 1 0 (merges 0 0 .0) refl refl refl,
+  merged 7 7 0 off 2 8 0 (merges 7 7 .0) refl refl refl,
+  merged 1 0 0 off 1 0 1 (merges 1 0 .0) refl refl refl,
+  merged 7 8 0 off 2 8 0 (merges 7 8 .0) refl refl refl,
+  merged 65534 65535 0 off 2 65535 0 (merges 65534 65535 .0) refl refl refl,
+  merged 65534 65535 3 beyond 3 65535 65535 (merges 65534 65535 .1) refl refl refl,
+)
 
 -- what an enter of train 1 into Area A is answered with: the first of its tests that holds, on Area A's tables with nothing allocated and no
 -- train on
@@ -235,7 +297,7 @@ enters-A r l v =
     rw (file-fresh (file headerA segmentsA) zero, fresh-sound (file headerA segmentsA) (accepted-iff _ .1 (done-iff _ .0 zero)), tables)
     (number-of-answer _ _)
 
--- THE CLAIM: the values of S and B, the edges of document 01 and those of R-3 and R-4 hold, as rows of one table; so do the runs with a train
+-- THE CLAIM: the values of S and B, the edges of document 01 and those of R-2 to R-4 hold, as rows of one table; so do the runs with a train
 -- on them
 pub rows-hold : allHold table ≡ true
 unfolding allHold table holds line tablesOf every least standsSound placeSound brakingSound askingSound allocationSound toRun wants ownIn nextIn rearIn rearFrom holdsAllIn occupiedIn aheadIn countOf segmentAt nth freed released movedIn movesIn
@@ -289,4 +351,24 @@ rows-hold =
       enters-A 3 0 250,
       enters-A 1 0 301,
     )
-    (unfold S B fallingSum noted begin in refl)
+    (rw (
+      mergers .0 .0,
+      mergers .0 .1,
+      mergers .0 .2,
+      mergers .1 .0,
+      mergers .1 .1,
+      mergers .1 .2,
+      mergers .2 .0,
+      mergers .2 .1,
+      mergers .2 .2,
+      mergers .3 .0,
+      mergers .3 .1,
+      mergers .3 .2,
+      mergers .4 .0,
+      mergers .4 .1,
+      mergers .4 .2,
+      mergers .5 .0,
+      mergers .5 .1,
+      mergers .5 .2,
+    )
+    (unfold S B fallingSum noted begin in refl))

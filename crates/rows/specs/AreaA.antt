@@ -9,7 +9,7 @@ use Rattle.tables.specs.declared.Tables.{Tables}
 use Rattle.trains.specs.declared.Train.{Train}
 use Rattle.trains.specs.Train.{Journey, off}
 use Rattle.area.specs.declared.Area.{Area}
-use Rattle.trains.specs.Due.{positionDue}
+use Rattle.trains.specs.Due.{grantDue, positionDue}
 
 -- block 0: 3 segments, 2 routes; `gmax`, `b`, `d` and the check are given
 unfoldable pub header : (gmax b d first second : ℕ) → List ℕ
@@ -71,6 +71,25 @@ moving place position speed length first third =
       trains = record { route = 1; place = place; position = position; speed = speed; length = length; asks = 0; count = 0 } ∷ replicate 23 off;
       due = positionDue;
     }
+
+-- Area A with grant due, train 1 near the end of segment 1 and train 2 near that of segment 2, both asking for segment 3, with these counts;
+-- `third` is who holds segment 3, and train 3 stands there where it is not off
+unfoldable pub merging : (count1 count2 third : ℕ) (train3 : Train) → Area
+merging count1 count2 third train3 =
+    record {
+      tables = decoded (file headerA segmentsA);
+      allocations = 1 ∷ 2 ∷ third ∷ replicate 59 0;
+      trains =
+          record { route = 1; place = 1; position = 1350; speed = 0; length = 1; asks = 1; count = count1 }
+          ∷ record { route = 2; place = 1; position = 850; speed = 0; length = 1; asks = 1; count = count2 }
+          ∷ train3
+          ∷ replicate 21 off;
+      due = grantDue;
+    }
+
+-- a train that stands on segment 3, by route 1
+abbrev pub beyond : Train
+beyond = record { route = 1; place = 2; position = 1; speed = 0; length = 1; asks = 0; count = 0 }
 
 -- what an enter on route r names
 abbrev pub on : (r length : ℕ) → Journey

@@ -1,4 +1,4 @@
--- The certain values and the edges of document 01 ("Units and braking" and "Area A") and of document 02, R-3 and R-4, as rows of one
+-- The certain values and the edges of document 01 ("Units and braking" and "Area A") and of document 02, R-2 to R-4, as rows of one
 -- table, with one computed test.
 use Prim.Native.Nat.{ℕ}
 use mathlib.Core.Bool.{Bool, true, false, not, _&&_}
@@ -9,17 +9,17 @@ use Rattle.braking.specs.Braking.{S, B}
 use Rattle.tables.specs.Bounds.{smallerBounds}
 use Rattle.trains.specs.declared.Train.{Train}
 use Rattle.trains.specs.Due.{positionDue}
-use Rattle.trains.specs.Train.{Journey, trainAt}
+use Rattle.trains.specs.Train.{Journey, off, trainAt}
 use Rattle.trains.specs.Sound.{trainSound, allocationSound}
 use Rattle.area.specs.declared.Area.{Area}
 use Rattle.answers.specs.declared.Answer.{Answer}
 use Rattle.answers.specs.Answers.{numberOf, placeOf}
 use Rattle.loading.specs.Load.{loaded}
 use Rattle.loading.specs.Before.{loadedWithin}
-use Rattle.area.specs.Calls.{enterCall, positionCall}
+use Rattle.area.specs.Calls.{enterCall, grantCall, positionCall}
 use Rattle.separation.specs.Calls.{Call, Enter}
 use Rattle.separation.specs.Runs.{isDone, after}
-use Rattle.rows.specs.AreaA.{header, segments, file, headerA, segmentsA, headerFast, segmentsFast, segmentsSlow, segments1000, segments1, moving, on, line, fourth}
+use Rattle.rows.specs.AreaA.{header, segments, file, headerA, segmentsA, headerFast, segmentsFast, segmentsSlow, segments1000, segments1, moving, merging, beyond, on, line, fourth}
 
 pub data Row : Type 0 where
   -- with this b, S(v) = way; and B(v) = way
@@ -31,6 +31,8 @@ pub data Row : Type 0 where
   -- after the call position on this record, the train has this place and position; and segment 1 is allocated so
   Move : (before : Area) (train place position : ℕ) → Row
   Held : (before : Area) (holder : ℕ) → Row
+  -- after the call grant on this record, segment 3 is allocated so, and trains 1 and 2 count so
+  Grants : (before : Area) (holder count1 count2 : ℕ) → Row
   -- position answers this record with this number; and an enter of train 1 at this speed into the area that load makes of this file
   Moves : (before : Area) (number : ℕ) → Row
   Enters : (bytes : List ℕ) (journey : Journey) (speed number : ℕ) → Row
@@ -60,6 +62,10 @@ holds (Move before train place position) =
     eqb (trainAt (positionCall before .area .trains) train .place) place
     && eqb (trainAt (positionCall before .area .trains) train .position) position
 holds (Held before holder) = eqb (at (positionCall before .area .allocations) 1) holder
+holds (Grants before holder count1 count2) =
+    eqb (at (grantCall before .area .allocations) 3) holder
+    && eqb (trainAt (grantCall before .area .trains) 1 .count) count1
+    && eqb (trainAt (grantCall before .area .trains) 2 .count) count2
 holds (Moves before number) = eqb (numberOf (positionCall before .answer)) number
 holds (Enters bytes journey speed number) = eqb (numberOf (enterCall (loaded bytes .area) 1 journey speed .answer)) number
 holds (Stands x allocations trainOk allocationsOk) =
@@ -74,7 +80,7 @@ unfoldable pub allHold : List Row → Bool
 allHold [] = true
 allHold (x ∷ rows) = holds x && allHold rows
 
--- the values of S and B, the four edges of document 01, the edges of R-3, two runs, and the edges of R-4
+-- the values of S and B, the four edges of document 01, the edges of R-3, two runs, and the edges of R-4 and R-2
 unfoldable pub table : List Row
 table =
     ValueS 10 5 5
@@ -149,4 +155,10 @@ table =
     ∷ Both (Enters (file headerA segmentsA) (on 1 1) 250 0) (Enters (file headerA segmentsA) (on 1 0) 250 23)
     ∷ Both (Enters (file headerA segmentsA) (on 1 20000) 250 0) (Enters (file headerA segmentsA) (on 1 20001) 250 23)
     ∷ Both (Enters (file headerA segmentsA) (on 3 0) 250 16) (Enters (file headerA segmentsA) (on 1 0) 301 23)
+    -- "equal counts go to the higher train number"; "asked and got nothing": train 1 counts one more
+    ∷ Both (Grants (merging 0 0 0 off) 2 1 0) (Grants (merging 7 7 0 off) 2 8 0)
+    -- "the highest count wins", and "returns to 0 on a grant"
+    ∷ Both (Grants (merging 1 0 0 off) 1 0 1) (Grants (merging 7 8 0 off) 2 8 0)
+    -- "stops at 65,535": from 65,534 it comes there, and there it stays; train 3 has the segment, and both ask in vain
+    ∷ Both (Grants (merging 65534 65535 0 off) 2 65535 0) (Grants (merging 65534 65535 3 beyond) 3 65535 65535)
     ∷ []

@@ -3,23 +3,21 @@ use Prim.Native.Nat.{ℕ, zero, suc, _+_, _-_, _≤_, _<_}
 use mathlib.Core.Path.{_≡_, refl, sym, ap, _∙_}
 use mathlib.Core.Logic.{_⊎_, inl, inr, _↔_}
 use mathlib.Core.Bool.{true}
+use native.Mathlib.Nat.{le-trans}
 use native.Mathlib.Omega.{arith}
-use lib.Dec.{eqb}
 use borrow.Author.Tests.{eq-eqb}
 use Rattle.lists.specs.Words.{at}
-use Rattle.lists.proofs.Cases.{if-case, by-test, cases, lt-or-le}
-use Rattle.braking.proofs.Laws.{S-B}
+use Rattle.lists.proofs.Cases.{by-test, cases, lt-or-le}
 use Rattle.tables.specs.declared.Tables.{Tables}
-use Rattle.tables.specs.Tables.{countOf, segmentAt}
+use Rattle.tables.specs.Tables.{countOf, segmentAt, brakingDistance}
 use Rattle.tables.specs.Facts.{Consistent}
 use Rattle.trains.specs.declared.Train.{Train}
-use Rattle.trains.specs.Due.{speedDue}
 use Rattle.trains.specs.Train.{trainAt, ownIn, ownOf, nextOf, holdsNext, rearOf, occupied}
 use Rattle.trains.specs.Sound.{toRun}
 use Rattle.trains.specs.Way.{startAfter}
 use Rattle.trains.proofs.Rear.{start-step, start-mono, rear-iff}
 use Rattle.trains.proofs.Segments.{occupied-beneath, beneath-occupied, ahead-next}
-use Rattle.trains.proofs.Safety.{TrainOk, next-is, in-margin, held-next}
+use Rattle.trains.proofs.Safety.{TrainOk, run-within, next-is, in-margin, held-next}
 use Rattle.separation.specs.Runs.{World}
 use Rattle.separation.specs.Where.{OnArea, routeOf, lengthOf, segmentOn, OwnPlace, HasOwn, OnSegment, GrantedNext, positionOf, speedOf, stillToRun, heldFrom, reach}
 use Rattle.separation.proofs.Places.{one-place}
@@ -164,11 +162,9 @@ module _ (T : Tables) (K : Consistent T) (w : World) (k : Kept T (w .area .alloc
       let more = held-first (countOf (T .routebytes) (routeOf T w t) - x t .place) t (x t .place + 1) (nextOf T (x t)) (omega arith) same e in
       omega (arith, more, ap (at (T .lengths)) (own-segment t o))
 
-  run-margin : (t : ℕ) → OnArea T w t → toRun (T .braking) (w .area .due) (x t .speed) ≤ T .margin
-  unfolding toRun
+  run-margin : (t : ℕ) → OnArea T w t → toRun (brakingDistance T) (w .area .due) (x t .speed) ≤ T .margin
   run-margin t o =
-      let m = in-margin T K (x t) (ok t o .onRoute) (x t .speed) (ok t o .slow) in
-      if-case (λ (v : ℕ). v ≤ T .margin) (eqb (w .area .due) speedDue) (λ e. omega (arith, S-B (T .braking) (K .rate) (x t .speed))) (λ e. m)
+      le-trans (run-within (brakingDistance T) (w .area .due) (x t .speed)) (in-margin T K (x t) (ok t o .onRoute) (x t .speed) (ok t o .slow))
 
   stops-here : (t : ℕ) → OnArea T w t → x t .position + stillToRun T w t < reach T w t (x t .place)
   stops-here t o =

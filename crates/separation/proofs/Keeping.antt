@@ -21,7 +21,12 @@ use Rattle.trains.specs.Grant.{granted, countAfter, calmed}
 use Rattle.trains.specs.GrantFacts.{AsksFor}
 use Rattle.trains.specs.EnterLeave.{firstSegment, takenBy, freedBy, becomes}
 use Rattle.trains.proofs.Segments.{occupied-beneath, own-occupied, wanted-ahead}
-use Rattle.trains.proofs.Safety.{TrainOk, frame, speed-ok, request-ok, grant-ok, position-ok, enter-ok}
+use Rattle.trains.proofs.Safety.{TrainOk, frame}
+use Rattle.trains.proofs.SafeSpeed.{speed-ok}
+use Rattle.trains.proofs.SafeRequest.{request-ok}
+use Rattle.trains.proofs.SafeGrant.{grant-ok}
+use Rattle.trains.proofs.SafePosition.{position-ok}
+use Rattle.trains.proofs.SafeEnter.{enter-ok}
 use Rattle.trains.proofs.Grant.{grant-keeps, grant-asked}
 use Rattle.trains.proofs.Calls.{sped-off, left-freed, others-stay, leaver-freed, others-kept, named-becomes, others-same}
 use Rattle.separation.specs.Runs.{History, put, atEnter, atLeave, atGrant, atPosition}

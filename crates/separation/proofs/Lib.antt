@@ -6,3 +6,5 @@ pub mod Fields
 pub mod Demand3
 pub mod Ways
 pub mod Tables
+pub mod Lists
+pub mod Stays

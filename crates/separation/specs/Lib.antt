@@ -3,3 +3,5 @@ pub mod Runs
 pub mod Where
 pub mod Claim
 pub mod Ways
+pub mod Stays
+pub mod Replies

@@ -6,7 +6,7 @@ use mathlib.Core.Bool.{true}
 use lib.Dec.{eqb}
 use Rattle.lists.specs.Words.{if_then_else_, at}
 use Rattle.tables.specs.declared.Tables.{Tables}
-use Rattle.tables.specs.Tables.{countOf, segmentAt}
+use Rattle.tables.specs.Tables.{countOf, segmentAt, brakingDistance}
 use Rattle.trains.specs.Train.{trainAt}
 use Rattle.trains.specs.Sound.{toRun}
 use Rattle.trains.specs.Way.{startAfter}
@@ -75,7 +75,7 @@ module _ (T : Tables) (w : World) where
 
   -- the way still to run under full braking: B(speed) with speed due, S(speed) with another step due
   abbrev pub stillToRun : (t : ℕ) → ℕ
-  stillToRun t = toRun (T .braking) (w .area .due) (speedOf t)
+  stillToRun t = toRun (brakingDistance T) (w .area .due) (speedOf t)
 
   -- the summed lengths of the segments of its route from place p on that are allocated to it, up to the first that is not, at most n
   unfoldable pub heldFrom : (n t p : ℕ) → ℕ

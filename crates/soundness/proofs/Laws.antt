@@ -6,36 +6,28 @@ use mathlib.Core.Bool.{true, _&&_}
 use mathlib.Core.List.{List}
 use native.Mathlib.Nat.{le-refl, not-suc-le-zero}
 use native.Mathlib.Omega.{arith}
-use lib.Dec.{eqb}
 use lib.ListN.{length}
 use borrow.Author.Tests.{lt-ltb}
-use Rattle.lists.proofs.Cases.{if-case}
 use Rattle.lists.specs.Words.{at, every}
 use Rattle.lists.proofs.Loops.{every-same}
 use Rattle.lists.proofs.Numbered.{nth-where}
-use Rattle.braking.specs.Braking.{S}
-use Rattle.braking.proofs.Laws.{S-B}
 use Rattle.tables.specs.declared.Tables.{Tables}
+use Rattle.tables.specs.Tables.{brakingDistance}
 use Rattle.tables.specs.Facts.{Consistent}
 use Rattle.trains.specs.declared.Train.{Train}
 use Rattle.trains.specs.declared.Spot.{Spot}
 use Rattle.trains.specs.Train.{mostTrains, off, trainAt, isOn, ownLimit}
 use Rattle.trains.specs.Spot.{spotOf}
-use Rattle.trains.specs.Sound.{offSound, placeSound, toRun, brakingSound, askingSound, standsSound, trainSound}
+use Rattle.trains.specs.Sound.{offSound, placeSound, brakingSound, askingSound, standsSound, trainSound}
 use Rattle.standing.specs.Spots.{spotsOf, spotAt}
 use Rattle.standing.proofs.Laws.{stands-same, spot-at}
 use Rattle.soundness.specs.Stopping.{Stopping}
 use Rattle.trains.proofs.Safety.{in-margin}
 use Rattle.trains.proofs.Soundness.{place-facts}
 
--- the way still to run is at most S
-pub run-within : (b due v : ℕ) → 1 ≤ b → toRun b due v ≤ S b v
-unfolding toRun
-run-within b due v rate = if-case (λ (w : ℕ). w ≤ S b v) (eqb due 0) (λ e. omega (arith, S-B b rate v)) (λ e. omega arith)
-
 pub limit-stops :
     (T : Tables) → Consistent T → (held : ℕ → ℕ) (t : ℕ) (x : Train) → 1 ≤ x .route → placeSound (T .routes) (spotOf T held t x) x ≡ true
-    → S (T .braking) (ownLimit T x) ≤ T .margin
+    → brakingDistance T (ownLimit T x) ≤ T .margin
 limit-stops T ok held t x on h =
     let f = place-facts (T .routes) (spotOf T held t x) x h in
     in-margin T ok x (record { routeLow = on; routeHigh = f .0; placeLow = f .1; placeHigh = f .2 }) (ownLimit T x) (le-refl (ownLimit T x))
@@ -57,15 +49,15 @@ module _ (T : Tables) (A : List ℕ) (trains : List Train) {spots : List Spot} (
 
   test-at :
       (due t : ℕ) → 1 ≤ t → t ≤ mostTrains
-      → standsSound (T .routes) (T .braking) due (spotAt spots t) (trainAt trains t) ≡ trainSound T A due t (trainAt trains t)
+      → standsSound (T .routes) (brakingDistance T) due (spotAt spots t) (trainAt trains t) ≡ trainSound T A due t (trainAt trains t)
   unfolding standsSound
   test-at due t low high =
       let x = trainAt trains t in
-      ap (λ (p : Spot). standsSound (T .routes) (T .braking) due p x) (spot-at T A trains long e t low high)
-      ∙ stands-same T (at A) t x (λ (p : Spot). placeSound (T .routes) p x && brakingSound (T .braking) due p x && askingSound due p x) (offSound x)
+      ap (λ (p : Spot). standsSound (T .routes) (brakingDistance T) due p x) (spot-at T A trains long e t low high)
+      ∙ stands-same T (at A) t x (λ (p : Spot). placeSound (T .routes) p x && brakingSound (brakingDistance T) due p x && askingSound due p x) (offSound x)
 
   pub tests-same :
       (due : ℕ)
-      → every mostTrains (λ (t : ℕ). standsSound (T .routes) (T .braking) due (spotAt spots t) (trainAt trains t))
+      → every mostTrains (λ (t : ℕ). standsSound (T .routes) (brakingDistance T) due (spotAt spots t) (trainAt trains t))
       ≡ every mostTrains (λ (t : ℕ). trainSound T A due t (trainAt trains t))
   tests-same due = every-same mostTrains _ _ (test-at due)

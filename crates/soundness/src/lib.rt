@@ -4,9 +4,8 @@ ghost use mathlib.Core.Bool.{true, _&&_};
 ghost use Prim.Native.Nat.{_≤_};
 ghost use lib.Dec.{leb, eqb};
 ghost use Rattle.lists.specs.Words.{if_then_else_, at, each, every, some};
-ghost use Rattle.braking.specs.Braking.{S};
 ghost use Rattle.tables.specs.Bounds.{mostSegments};
-ghost use Rattle.tables.specs.Tables.{segmentAt};
+ghost use Rattle.tables.specs.Tables.{segmentAt, distanceIn};
 ghost use Rattle.trains.specs.Train.{mostTrains, trainAt};
 ghost use Rattle.trains.specs.Sound.{offSound, placeSound, toRun, brakingSound, askingSound, standsSound};
 ghost use Rattle.standing.specs.Spots.{spotAt};
@@ -41,7 +40,7 @@ fn place_sound(routes: u8, spot: Spot, x: Train) -> bool
 // The way still to run: B(speed) with speed due, S(speed) with another step due.
 fn to_run(braking: u16, due: u8, speed: u16) -> u32
     requires { ⌜ 1 ≤ braking ⌝ }
-    ensures { λ r. ⌜ r ≡ toRun braking due speed ⌝ }
+    ensures { λ r. ⌜ r ≡ toRun (distanceIn braking) due speed ⌝ }
 {
     let distance = braking::braking_distance(speed, braking);
     if due == 0 {
@@ -52,8 +51,8 @@ fn to_run(braking: u16, due: u8, speed: u16) -> u32
 
 // The braking sum is worked out only of a train so far along that it matters: before that S(speed) ≤ `d` keeps it within.
 fn braking_sound(braking: u16, margin: u32, due: u8, spot: Spot, x: Train) -> bool
-    requires { ⌜ (1 ≤ braking) × (S braking (x .speed) ≤ margin) ⌝ }
-    ensures { λ r. ⌜ r ≡ brakingSound braking due spot x ⌝ }
+    requires { ⌜ (1 ≤ braking) × (distanceIn braking (x .speed) ≤ margin) ⌝ }
+    ensures { λ r. ⌜ r ≡ brakingSound (distanceIn braking) due spot x ⌝ }
 {
     let position = x.position as u64;
     let length = spot.length as u64;
@@ -75,8 +74,8 @@ fn asking_sound(due: u8, spot: Spot, x: Train) -> bool
 
 // Of a train whose place is sound, S(limit) ≤ `d`.
 fn train_sound(routes: u8, braking: u16, margin: u32, due: u8, spot: Spot, x: Train) -> bool
-    requires { ⌜ (1 ≤ braking) × (1 ≤ x .route → placeSound routes spot x ≡ true → S braking (spot .limit) ≤ margin) ⌝ }
-    ensures { λ r. ⌜ r ≡ standsSound routes braking due spot x ⌝ }
+    requires { ⌜ (1 ≤ braking) × (1 ≤ x .route → placeSound routes spot x ≡ true → distanceIn braking (spot .limit) ≤ margin) ⌝ }
+    ensures { λ r. ⌜ r ≡ standsSound routes (distanceIn braking) due spot x ⌝ }
 {
     if x.route == 0 {
         return off_sound(x);
@@ -97,7 +96,7 @@ pub fn trains_sound(
     trains: [Train; 24],
 ) -> bool
     requires { ⌜ Stopping routes braking margin spots trains ⌝ }
-    ensures { λ r. ⌜ r ≡ every mostTrains (λ t. standsSound routes braking due (spotAt spots t) (trainAt trains t)) ⌝ }
+    ensures { λ r. ⌜ r ≡ every mostTrains (λ t. standsSound routes (distanceIn braking) due (spotAt spots t) (trainAt trains t)) ⌝ }
 {
     let mut i: usize = 0;
     while i < 24 {

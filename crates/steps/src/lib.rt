@@ -1,14 +1,12 @@
 // What one train, and the allocation of one segment, becomes at speed, request and position; the tests of a step.
 ghost use mathlib.Core.Path.{_≡_};
 ghost use mathlib.Core.Bool.{not};
-ghost use mathlib.Core.List.{[], _∷_};
+ghost use mathlib.Core.List.{_∷_};
 ghost use Prim.Native.Nat.{_+_, _-_, min, max};
 ghost use lib.Dec.{eqb};
 ghost use Rattle.lists.specs.Words.{if_then_else_, at};
 ghost use Rattle.lists.specs.Tests.{_⇒_, firstOf};
-ghost use Rattle.trains.specs.Due.{speedDue};
-ghost use Rattle.trains.specs.Train.{mostTrains};
-ghost use Rattle.trains.specs.Cycle.{upperEnd, newSpeed, spedAt, requestedAt, movesIn, movedIn};
+ghost use Rattle.trains.specs.Cycle.{dueTests, wishTests, upperEnd, newSpeed, spedAt, requestedAt, movesIn, movedIn};
 ghost use Rattle.steps.specs.Room.{Room};
 ghost use Rattle.steps.specs.Left.{leftIn};
 use lists::entry_u8;
@@ -17,7 +15,7 @@ use trains::Train;
 
 // ---- the number of the first test of a step that holds, 0 where none does; `ok` says whether the record is sound
 pub fn step_refusal(ok: bool, due: u8, step: u8) -> u8
-    ensures { λ r. ⌜ r ≡ firstOf (not ok ⇒ 11 ∷ not (eqb due step) ⇒ 12 ∷ []) .number ⌝ }
+    ensures { λ r. ⌜ r ≡ firstOf (not ok ⇒ 11 ∷ dueTests step due) .number ⌝ }
 {
     if !ok {
         return 11;
@@ -29,7 +27,7 @@ pub fn step_refusal(ok: bool, due: u8, step: u8) -> u8
 }
 
 pub fn speed_refusal(ok: bool, due: u8, wishes: usize) -> u8
-    ensures { λ r. ⌜ r ≡ firstOf (not ok ⇒ 11 ∷ not (eqb due speedDue) ⇒ 12 ∷ not (eqb wishes mostTrains) ⇒ 21 ∷ []) .number ⌝ }
+    ensures { λ r. ⌜ r ≡ firstOf (not ok ⇒ 11 ∷ wishTests due wishes) .number ⌝ }
 {
     if !ok {
         return 11;

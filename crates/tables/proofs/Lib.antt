@@ -1,1 +1,3 @@
 pub mod Consistency
+pub mod Distance
+pub mod Routes

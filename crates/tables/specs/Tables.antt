@@ -43,9 +43,12 @@ countOf routebytes r = at routebytes (32 * r - 31)
 unfoldable pub segmentAt : List ℕ → ℕ → ℕ → ℕ
 segmentAt routebytes r p = at routebytes (32 * r - 31 + p)
 
--- the braking distance in an area: S at the area's rate
-abbrev pub brakingDistance : Tables → ℕ → ℕ
-brakingDistance T v = S (T .braking) v
+-- the braking distance in an area: S at the area's rate. Every braking distance of an area goes by this name
+abbrev pub distanceIn : (b : ℕ) → (v : ℕ) → ℕ
+distanceIn b = S b
+
+abbrev pub brakingDistance : Tables → (v : ℕ) → ℕ
+brakingDistance T = distanceIn (T .braking)
 
 -- tables that are all zero
 unfoldable pub blankTables : Tables

@@ -1,19 +1,24 @@
 -- What speed, request, position, enter and leave do to one train and to one allocation, in the paper's words.
-use Prim.Native.Nat.{ℕ, _≤_}
+use Prim.Native.Nat.{ℕ, _-_, _≤_}
 use mathlib.Core.Path.{_≡_, ap}
+use mathlib.Core.Logic.{_↔_}
 use mathlib.Core.Bool.{Bool, true, false, not, _&&_}
 use mathlib.Core.List.{List}
 use native.Mathlib.Omega.{arith}
-use borrow.Author.Tests.{eq-eqb, ne-eqb}
+use borrow.Author.Tests.{leb-true, le-leb, eq-eqb, ne-eqb}
 use Rattle.lists.specs.Words.{if_then_else_, at}
 use Rattle.lists.proofs.Cases.{if-case}
 use Rattle.tables.specs.declared.Tables.{Tables}
 use Rattle.trains.specs.declared.Train.{Train}
 use Rattle.trains.specs.declared.Spot.{Spot}
-use Rattle.trains.specs.Train.{withSpeed, asking, withAsking, trainAt, isOn}
+use Rattle.trains.specs.Train.{withSpeed, asking, withAsking, trainAt, isOn, ownLength}
 use Rattle.trains.specs.Spot.{spotOf}
 use Rattle.trains.specs.Cycle.{low, newSpeed, sped, wants, requested, released, freed}
 use Rattle.trains.specs.EnterLeave.{freedBy, becomes}
+
+-- THE CLAIM: near means position ≥ length - `d`, and nothing else
+pub near-iff : (T : Tables) (held : ℕ → ℕ) (t : ℕ) (x : Train) → (spotOf T held t x .near ≡ true) ↔ (ownLength T x - T .margin ≤ x .position)
+near-iff T held t x = (leb-true (ownLength T x - T .margin) (x .position), le-leb (ownLength T x - T .margin) (x .position))
 
 -- THE CLAIM: entries of trains off are ignored
 pub sped-off : (T : Tables) (A wishes : List ℕ) (t : ℕ) (x : Train) → isOn x ≡ false → sped T A wishes t x ≡ x

@@ -9,10 +9,11 @@ use lib.Dec.{eqb}
 use borrow.Author.Tests.{eq-eqb, ne-eqb, lt-ltb, not-true}
 use Rattle.lists.specs.Words.{if_then_else_, at}
 use Rattle.lists.proofs.Cases.{by-test, cases, lt-or-le, eq-or-ne, not-both, is-false, facts}
-use Rattle.braking.proofs.Laws.{S-above}
 use Rattle.tables.specs.declared.Tables.{Tables}
-use Rattle.tables.specs.Tables.{countOf, segmentAt}
+use Rattle.tables.specs.Tables.{countOf, segmentAt, brakingDistance}
 use Rattle.tables.specs.Facts.{Consistent}
+use Rattle.tables.proofs.Distance.{distance-above}
+use Rattle.tables.proofs.Routes.{one-place-of}
 use Rattle.trains.specs.declared.Train.{Train}
 use Rattle.trains.specs.Train.{ownIn, ownOf, nextOf, ownLength, ownLimit, holdsNext, rearOf, occupied}
 use Rattle.trains.specs.Cycle.{movesIn, movesOn, movedIn, moved, released}
@@ -22,7 +23,8 @@ use Rattle.trains.specs.SoundFacts.{SoundTrain}
 use Rattle.trains.specs.Due.{positionDue}
 use Rattle.trains.proofs.Rear.{start-step, start-mono, rear-iff, rear-low-of}
 use Rattle.trains.proofs.Segments.{occupied-beneath, beneath-occupied, rear-upto}
-use Rattle.trains.proofs.Safety.{OnRoute, run-later, held-next, own-is, one-place-of, Moved, stays-on, goes-on, rear-after, under-before}
+use Rattle.trains.proofs.Safety.{OnRoute, run-later, held-next, own-is}
+use Rattle.trains.proofs.Moved.{Moved, stays-on, goes-on, rear-after, under-before}
 
 -- a train on the area that a position step can move: what a sound record says of it
 pub record Movable (T : Tables) (x : Train) : Type 0 where
@@ -42,8 +44,8 @@ sound-movable T K A t x on s =
           λ past.
           by-test (holdsNext T (at A) t x) (λ h. held-next T K (at A) t x h .0)
           (λ h.
-          let stop = rw (run-later (T .braking) positionDue (x .speed) (omega arith)) at (s .stops h) in
-          absurd (omega (arith, past, stop, S-above (T .braking) (K .rate) (x .speed))));
+          let stop = rw (run-later (brakingDistance T) positionDue (x .speed) (omega arith)) at (s .stops h) in
+          absurd (omega (arith, past, stop, distance-above T K (x .speed))));
     }
 
 module _ (T : Tables) (K : Consistent T) (x : Train) (v : Movable T x) where

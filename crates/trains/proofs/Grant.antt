@@ -12,7 +12,7 @@ use Rattle.tables.specs.declared.Tables.{Tables}
 use Rattle.trains.specs.declared.Train.{Train}
 use Rattle.trains.specs.Train.{mostTrains, answered, trainAt, wanted}
 use Rattle.trains.specs.Order.{goesBefore, foremost}
-use Rattle.trains.specs.Grant.{asked, trainCount, served, granted, mostCount, countAfter, calmed}
+use Rattle.trains.specs.Grant.{asked, trainCount, served, granted, countAfter, calmed}
 use Rattle.trains.specs.GrantFacts.{AsksFor}
 use Rattle.trains.proofs.Order.{before-self, before-through, foremost-le, foremost-holds, foremost-first}
 
@@ -76,7 +76,7 @@ module _ (T : Tables) (trains : List Train) where
     after = calmed T A A′ t (trainAt trains t)
 
     abbrev oneMore : ℕ
-    oneMore = min (trainAt trains t .count + 1) mostCount
+    oneMore = min (trainAt trains t .count + 1) 65535
 
     -- THE CLAIM: all asking ends
     pub calmed-asks : after .asks ≡ 0

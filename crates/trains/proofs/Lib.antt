@@ -2,10 +2,16 @@ pub mod Laws
 pub mod Rear
 pub mod Segments
 pub mod Safety
+pub mod SafeSpeed
+pub mod SafeRequest
+pub mod SafeGrant
+pub mod Moved
+pub mod SafePosition
+pub mod SafeEnter
 pub mod Freed
 pub mod Front
 pub mod Edges
-pub mod Entry
+pub mod Refusals
 pub mod Soundness
 pub mod Order
 pub mod Grant

@@ -1,7 +1,7 @@
 -- The three names for a train's segments, opened: what is under it lies at a place from its rear's to its front's, what may be allocated
 -- ahead of it is its next, and that is what it asks for. Other proofs know them by these laws.
-use Prim.Native.Nat.{ℕ, _≤_, _<_}
-use mathlib.Core.Path.{_≡_, refl}
+use Prim.Native.Nat.{ℕ, _+_, _≤_, _<_}
+use mathlib.Core.Path.{_≡_, refl, sym, _∙_}
 use mathlib.Core.Logic.{_↔_, inl, inr}
 use mathlib.Core.Bool.{Bool, true, _&&_, _||_}
 use native.Mathlib.Omega.{arith}
@@ -76,6 +76,24 @@ module _ (T : Tables) (x : Train) where
         (beneath-occupied (record { place = p; low = low; high = high; rear = l; segment = refl }))))))),
   )
 
+  -- THE CLAIM: its next is the segment that follows its own on its route; on the route's last segment there is none
+  pub next-there : x .place < countOf (T .routebytes) (x .route) → nextOf T x ≡ segmentAt (T .routebytes) (x .route) (x .place + 1)
+  unfolding nextIn
+  next-there h = rw (lt-ltb (x .place) (countOf (T .routebytes) (x .route)) h)
+
+  pub next-none : countOf (T .routebytes) (x .route) ≤ x .place → nextOf T x ≡ 0
+  unfolding nextIn
+  next-none h = rw (le-ltb (x .place) (countOf (T .routebytes) (x .route)) h)
+
+  -- THE CLAIM: that is what it asks for
+  pub wanted-next : x .place < countOf (T .routebytes) (x .route) → wanted T x ≡ segmentAt (T .routebytes) (x .route) (x .place + 1)
+  unfolding wantedIn
+  wanted-next h = next-there h
+
+  pub wanted-none : countOf (T .routebytes) (x .route) ≤ x .place → wanted T x ≡ 0
+  unfolding wantedIn
+  wanted-none h = next-none h
+
   pub next-ahead : {s : ℕ} → 1 ≤ s → nextOf T x ≡ s → ahead T x s ≡ true
   unfolding aheadIn
   next-ahead {s} some e = rw (lt-ltb 0 s some, eq-eqb (nextOf T x) s e)
@@ -86,8 +104,10 @@ module _ (T : Tables) (x : Train) where
 
   -- what it asks for may be allocated ahead of it
   pub wanted-ahead : {s : ℕ} → 1 ≤ s → wanted T x ≡ s → ahead T x s ≡ true
-  unfolding wantedIn
-  wanted-ahead some e = next-ahead some e
+  wanted-ahead some e =
+      cases (lt-or-le (x .place) (countOf (T .routebytes) (x .route)))
+      (λ l. next-ahead some (next-there l ∙ sym (wanted-next l) ∙ e))
+      (λ l. absurd (omega (arith, wanted-none l, some, e)))
 
 -- THE CLAIM: of a train that has not come to its segment's end, what is under it by lengths summed back from its front is what is under it by
 -- lengths summed from the route's start

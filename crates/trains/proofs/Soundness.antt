@@ -10,7 +10,7 @@ use borrow.Author.Tests.{leb-true, ltb-true, eqb-true, le-leb, lt-ltb, eq-eqb, n
 use Rattle.lists.specs.Words.{at}
 use Rattle.lists.proofs.Cases.{by-test, cases, lt-or-le, eq-or-ne, not-both, and-iff, facts, either, either-yes}
 use Rattle.tables.specs.declared.Tables.{Tables}
-use Rattle.tables.specs.Tables.{countOf}
+use Rattle.tables.specs.Tables.{countOf, brakingDistance}
 use Rattle.trains.specs.declared.Train.{Train}
 use Rattle.trains.specs.declared.Spot.{Spot}
 use Rattle.trains.specs.Due.{speedDue, grantDue}
@@ -21,7 +21,7 @@ use Rattle.trains.specs.Sound.{offSound, placeSound, toRun, brakingSound
 use Rattle.trains.specs.SoundFacts.{SoundTrain, SoundAllocation}
 use Rattle.trains.proofs.Segments.{all-held-iff, occupied-iff, ahead-iff}
 
-module _ (b due : ℕ) (p : Spot) (x : Train) where
+module _ (S : ℕ → ℕ) (due : ℕ) (p : Spot) (x : Train) where
   pub asking-iff : (askingSound due p x ≡ true) ↔ (x .asks ≡ asking (eqb due grantDue && wants p))
   unfolding askingSound
   asking-iff = (eqb-true (x .asks) _, eq-eqb (x .asks) _)
@@ -47,8 +47,8 @@ module _ (b due : ℕ) (p : Spot) (x : Train) where
   )
 
   pub braking-iff :
-      (brakingSound b due p x ≡ true)
-      ↔ ((p .holds ≡ false → x .position + toRun b due (x .speed) < p .length)
+      (brakingSound S due p x ≡ true)
+      ↔ ((p .holds ≡ false → x .position + toRun S due (x .speed) < p .length)
       × (p .holds ≡ true → speedDue < due → p .length ≤ x .position + x .speed → x .speed ≤ p .nextlimit))
   unfolding brakingSound
   braking-iff =
@@ -102,10 +102,10 @@ module _ (T : Tables) (A : List ℕ) (due t : ℕ) (x : Train) where
   train-iff on =
       let o : isOn x ≡ true = lt-ltb 0 (x .route) on in (
         λ e.
-            let h : (placeSound (T .routes) here x && brakingSound (T .braking) due here x && askingSound due here x) ≡ true = rw o at e in
+            let h : (placeSound (T .routes) here x && brakingSound (brakingDistance T) due here x && askingSound due here x) ≡ true = rw o at e in
             let f = simp and-iff at h in
             let p = place-facts (T .routes) here x (f .0 .0) in
-            let b = braking-iff (T .braking) due here x .0 (f .0 .1) in
+            let b = braking-iff (brakingDistance T) due here x .0 (f .0 .1) in
             record {
               route = p .0;
               place = (p .1, p .2);
@@ -115,14 +115,14 @@ module _ (T : Tables) (A : List ℕ) (due t : ℕ) (x : Train) where
               under = λ s u. all-held-iff T x (at A) t .0 (p .5) s (occupied-iff T x (p .3) s .1 u);
               stops = b .0;
               next = b .1;
-              asks = asking-iff (T .braking) due here x .0 (f .1);
+              asks = asking-iff (brakingDistance T) due here x .0 (f .1);
             },
         λ f.
             rw (
               o,
               facts-place f,
-              braking-iff (T .braking) due here x .1 (f .stops, f .next),
-              asking-iff (T .braking) due here x .1 (f .asks),
+              braking-iff (brakingDistance T) due here x .1 (f .stops, f .next),
+              asking-iff (brakingDistance T) due here x .1 (f .asks),
             ),
       )
 

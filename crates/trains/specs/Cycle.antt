@@ -1,16 +1,25 @@
--- What becomes of one train, and of one segment's allocation, at speed, request and position (document 01, "The calls"; document 02,
--- R-4).
+-- What becomes of one train, and of one segment's allocation, at speed, request and position, and what the steps of a cycle ask (document
+-- 01, "The calls" and "Refusals"; document 02, R-4).
 -- T are the tables of the area, A its allocations, t the number of a train, x the train, p where it stands, s a segment, h who holds it.
 use Prim.Native.Nat.{ℕ, _+_, _-_, min, max}
 use mathlib.Core.Bool.{Bool, not, _&&_}
-use mathlib.Core.List.{List}
-use lib.Dec.{leb, ltb}
+use mathlib.Core.List.{List, [], _∷_}
+use lib.Dec.{leb, ltb, eqb}
 use Rattle.lists.specs.Words.{if_then_else_, at}
+use Rattle.lists.specs.Tests.{Test, _⇒_}
 use Rattle.tables.specs.declared.Tables.{Tables}
 use Rattle.trains.specs.declared.Train.{Train}
 use Rattle.trains.specs.declared.Spot.{Spot}
-use Rattle.trains.specs.Train.{withSpeed, withAsking, movedTo, trainAt, isOn, ownLength, occupied}
+use Rattle.trains.specs.Due.{speedDue}
+use Rattle.trains.specs.Train.{mostTrains, withSpeed, withAsking, movedTo, trainAt, isOn, ownLength, occupied}
 use Rattle.trains.specs.Spot.{spotOf}
+
+-- the tests of a step that come after 11: of request, grant and position, and of speed with so many wishes. `due` is the step due
+abbrev pub dueTests : (step due : ℕ) → List Test
+dueTests step due = not (eqb due step) ⇒ 12 ∷ []
+
+abbrev pub wishTests : (due wishes : ℕ) → List Test
+wishTests due wishes = not (eqb due speedDue) ⇒ 12 ∷ not (eqb wishes mostTrains) ⇒ 21 ∷ []
 
 -- *Speed*. Low = max(0, speed - `b`)
 abbrev pub low : (b : ℕ) → Train → ℕ

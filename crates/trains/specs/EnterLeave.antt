@@ -4,7 +4,7 @@
 -- segment, h who holds it.
 use Prim.Native.Nat.{ℕ, _/_, _%_}
 use mathlib.Core.Bool.{Bool, not, _&&_}
-use mathlib.Core.List.{List, [], _∷_}
+use mathlib.Core.List.{List, [], _∷_, _++_}
 use lib.Dec.{leb, ltb, eqb}
 use Rattle.lists.specs.Words.{if_then_else_, at}
 use Rattle.lists.specs.Tests.{Test, _⇒_}
@@ -46,21 +46,29 @@ noTrain t = not (leb 1 t && leb t mostTrains)
 abbrev pub noRoute : Tables → ℕ → Bool
 noRoute T r = not (leb 1 r && leb r (T .routes))
 
--- the tests of enter (train t, journey j, speed v) and of leave that come after 11; "23, length outside the bounds, after 16"
-abbrev pub entryTests : Tables → List ℕ → List Train → ℕ → Journey → ℕ → List Test
-entryTests T A trains t j v =
-    noTrain t ⇒ 13
-    ∷ isOn (trainAt trains t) ⇒ 14
-    ∷ noRoute T (j .route) ⇒ 16
+-- the tests of enter (train t, journey j, speed v) and of leave that come after 11. Those of enter are three lists: of the train's number;
+-- whether it is on; of its journey, its speed and the route's first segment. "23, length outside the bounds, after 16"
+abbrev pub numberTests : ℕ → List Test
+numberTests t = noTrain t ⇒ 13 ∷ []
+
+abbrev pub onTests : List Train → ℕ → List Test
+onTests trains t = isOn (trainAt trains t) ⇒ 14 ∷ []
+
+abbrev pub journeyTests : Tables → List ℕ → Journey → ℕ → List Test
+journeyTests T A j v =
+    noRoute T (j .route) ⇒ 16
     ∷ not (lengthOk (j .length)) ⇒ 23
     ∷ not (isEntry T (firstSegment T (j .route))) ⇒ 17
     ∷ ltb 0 (at A (firstSegment T (j .route))) ⇒ 18
     ∷ ltb (at (T .limits) (firstSegment T (j .route))) v ⇒ 19
     ∷ []
 
+abbrev pub entryTests : Tables → List ℕ → List Train → ℕ → Journey → ℕ → List Test
+entryTests T A trains t j v = numberTests t ++ onTests trains t ++ journeyTests T A j v
+
 abbrev pub exitTests : Tables → List Train → ℕ → List Test
 exitTests T trains t =
-    noTrain t ⇒ 13
-    ∷ not (isOn (trainAt trains t)) ⇒ 15
+    numberTests t
+    ++ not (isOn (trainAt trains t)) ⇒ 15
     ∷ not (isLast T (trainAt trains t) && isExit T (ownOf T (trainAt trains t))) ⇒ 20
     ∷ []

@@ -8,7 +8,7 @@ use mathlib.Core.List.{List}
 use lib.Dec.{eqb}
 use Rattle.lists.specs.Words.{at}
 use Rattle.tables.specs.declared.Tables.{Tables}
-use Rattle.tables.specs.Tables.{countOf, segmentAt}
+use Rattle.tables.specs.Tables.{countOf, segmentAt, brakingDistance}
 use Rattle.trains.specs.declared.Train.{Train}
 use Rattle.trains.specs.Due.{speedDue, grantDue}
 use Rattle.trains.specs.Train.{longestTrain, asking, trainAt, ownLength, ownLimit, nextLimit, holdsNext}
@@ -43,7 +43,7 @@ pub record SoundTrain (T : Tables) (A : List ℕ) (due t : ℕ) (x : Train) : Ty
   -- every segment under it is allocated to it
   pub under : (s : ℕ) → IsUnder T x s → at A s ≡ t
   -- while next is not allocated to it, or there is none
-  pub stops : holdsNext T (at A) t x ≡ false → x .position + toRun (T .braking) due (x .speed) < ownLength T x
+  pub stops : holdsNext T (at A) t x ≡ false → x .position + toRun (brakingDistance T) due (x .speed) < ownLength T x
   -- while next is allocated to it, another step is due and position + speed ≥ length
   pub next : holdsNext T (at A) t x ≡ true → speedDue < due → ownLength T x ≤ x .position + x .speed → x .speed ≤ nextLimit T x
   -- asking is 1 exactly then, and 0 otherwise

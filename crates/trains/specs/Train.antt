@@ -93,8 +93,11 @@ abbrev pub nextLimit : Tables → Train → ℕ
 nextLimit T x = at (T .limits) (nextOf T x)
 
 -- **near**: position ≥ length - `d`
+abbrev pub nearIn : (length d : ℕ) → Train → Bool
+nearIn length d x = leb (length - d) (x .position)
+
 abbrev pub near : Tables → Train → Bool
-near T x = leb (ownLength T x - T .margin) (x .position)
+near T x = nearIn (ownLength T x) (T .margin) x
 
 -- next exists and is allocated to it. `held` says who holds a segment
 abbrev pub holdsNext : Tables → (held : ℕ → ℕ) → ℕ → Train → Bool

@@ -2,9 +2,6 @@ use borrow.Author.Needs.{needs}
 use Rattle.answers.proofs.place_of.Statement.{statement}
 use Rattle.answers.proofs.place_of.Tie as tie
 
-enum-told : tie.Need-enum-told
-enum-told c = search needs
-
 returns : tie.Need-returns
 returns c = rw (c .enum-told .given .1)
 
@@ -12,4 +9,4 @@ returns-2 : tie.Need-returns-2
 returns-2 c = rw (c .before .answer .given .1)
 
 pub place-of-spec : {M : Type 1} → statement M
-place-of-spec = tie.close (tie.spec enum-told (λ c. search needs) returns returns-2)
+place-of-spec = tie.close (tie.spec (λ c. search needs) (λ c. search needs) returns returns-2)

@@ -4,9 +4,9 @@ use Prim.Native.Nat.{_+_, _≤_}
 use native.Mathlib.Omega.{arith}
 use borrow.Author.Needs.{needs}
 use borrow.Author.Tests.{lt-ltb}
-use Rattle.braking.specs.Braking.{S}
+use Rattle.tables.specs.Tables.{distanceIn}
 use Rattle.trains.specs.Sound.{toRun, brakingSound}
-use Rattle.soundness.proofs.Laws.{run-within}
+use Rattle.trains.proofs.Safety.{run-within}
 use Rattle.soundness.proofs.braking_sound.Statement.{statement}
 use Rattle.soundness.proofs.braking_sound.Tie as tie
 
@@ -19,8 +19,8 @@ unfolding brakingSound
 returns-2 c =
     let s = c .before .before .before .before in
     let x = s .args .x in
-    let way = toRun (s .args .braking) (s .args .due) (x .speed) in
-    let w : way ≤ S (s .args .braking) (x .speed) = run-within (s .args .braking) (s .args .due) (x .speed) (s .pre .0) in
+    let way = toRun (distanceIn (s .args .braking)) (s .args .due) (x .speed) in
+    let w : way ≤ distanceIn (s .args .braking) (x .speed) = run-within (distanceIn (s .args .braking)) (s .args .due) (x .speed) in
     simp (c .before .if1 .left, lt-ltb (x .position + way) (s .args .spot .length) (omega (arith, w, s .pre .1, c .if2 .taken)))
 
 returns-3 : tie.Need-returns-3

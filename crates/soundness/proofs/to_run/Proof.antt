@@ -2,7 +2,6 @@
 use native.Mathlib.Omega.{arith}
 use borrow.Author.Needs.{needs}
 use borrow.Author.Tests.{eq-eqb, ne-eqb}
-use Rattle.braking.specs.Braking.{B}
 use Rattle.braking.proofs.Laws.{S-above}
 use Rattle.trains.specs.Sound.{toRun}
 use Rattle.soundness.proofs.to_run.Statement.{statement}
@@ -14,7 +13,7 @@ sub-result c =
     omega (arith, c .before .braking-distance .ensures, S-above (a .braking) (c .before .before .pre) (a .speed))
 
 returns : tie.Need-returns
-unfolding toRun B
+unfolding toRun
 returns c = simp (c .before .braking-distance .ensures, eq-eqb _ _ (c .if1 .taken))
 
 returns-2 : tie.Need-returns-2

@@ -8,6 +8,7 @@ use Rattle.lists.specs.Words.{every}
 use Rattle.lists.proofs.Cases.{test-fails, test-holds}
 use Rattle.lists.proofs.Loops.{every-none, every-more, every-fails}
 use Rattle.lists.proofs.Numbered.{nth-index}
+use Rattle.tables.specs.Tables.{distanceIn}
 use Rattle.trains.specs.declared.Train.{Train}
 use Rattle.trains.specs.declared.Spot.{Spot}
 use Rattle.trains.specs.Train.{mostTrains, off, trainAt}
@@ -17,7 +18,7 @@ use Rattle.soundness.proofs.trains_sound.Statement.{statement}
 use Rattle.soundness.proofs.trains_sound.Tie as tie
 
 abbrev sound : (R b due : ℕ) → List Spot → List Train → ℕ → Bool
-sound R b due spots trains t = standsSound R b due (spotAt spots t) (trainAt trains t)
+sound R b due spots trains t = standsSound R (distanceIn b) due (spotAt spots t) (trainAt trains t)
 
 abbrev Inv-loop : tie.InvT-loop
 Inv-loop routes braking margin due spots trains i₀ i = (i ≤ mostTrains) × (every i (sound routes braking due spots trains) ≡ true)
