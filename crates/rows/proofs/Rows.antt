@@ -344,6 +344,8 @@ rows-hold =
       answered-by 1 0 0 20001 1 0,
       answered-by 2 5999 0 6000 0 1,
       answered-by 2 6000 0 6000 1 1,
+      answered-by 1 5800 290 1 1 1,
+      answered-by 1 5800 300 1 1 1,
       enters-A 1 1 250,
       enters-A 1 0 250,
       enters-A 1 20000 250,

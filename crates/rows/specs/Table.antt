@@ -151,6 +151,8 @@ table =
     ∷ Both (Stands (fourth 500 3500) (1 ∷ 1 ∷ 1 ∷ 1 ∷ 0 ∷ []) true true) (Stands (fourth 500 20000) (1 ∷ 1 ∷ 1 ∷ 1 ∷ 0 ∷ []) true true)
     -- its next may be its own
     ∷ Stands (fourth 500 2500) (0 ∷ 1 ∷ 1 ∷ 1 ∷ 1 ∷ []) true true
+    -- "speed ≤ next's limit": position + speed is past the end of segment 1, segment 3 is its own, and the limit there is 290
+    ∷ Both (Moves (moving 1 5800 290 1 1 1) 0) (Moves (moving 1 5800 300 1 1 1) 11)
     -- "Turned away: 23, length outside the bounds, after 16"
     ∷ Both (Enters (file headerA segmentsA) (on 1 1) 250 0) (Enters (file headerA segmentsA) (on 1 0) 250 23)
     ∷ Both (Enters (file headerA segmentsA) (on 1 20000) 250 0) (Enters (file headerA segmentsA) (on 1 20001) 250 23)

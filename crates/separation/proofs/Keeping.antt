@@ -290,9 +290,9 @@ module _ (T : Tables) (K : Consistent T) (A : List ℕ) (X : List Train) (h : Hi
         let q : takenBy first t s (at A s) ≡ t = sym (take-look s) ∙ e in
         cases (eq-or-ne s first) (λ z. own-occupied T (entered j v) (omega arith) (sym z)) (λ z. absurd (none-held s (rw (ne-eqb s first z) at q)))
 
-    itself : TrainOk T due (at takenA) t (entered j v) 0 (λ (s : ℕ). false)
+    itself : (got : ℕ → Bool) → TrainOk T due (at takenA) t (entered j v) 0 got
     unfolding ownIn
-    itself = enter-ok T K due (at takenA) t j v (λ (s : ℕ). false) (isRoute .0) (isRoute .1) isLength slow first-under under-first
+    itself got = enter-ok T K due (at takenA) t j v got (isRoute .0) (isRoute .1) isLength slow first-under under-first
 
     another : (u : ℕ) → (u ≡ t → ⊥) → h .on u ≡ true → TrainOk T due (at takenA) u (trainAt X u) (h .way u) (h .granted u)
     another u n o =
@@ -315,7 +315,7 @@ module _ (T : Tables) (K : Consistent T) (A : List ℕ) (X : List Train) (h : Hi
               (λ n. rw (enter-look u, ne-eqb u t n) (k .journeys u (rw (ne-eqb u t n) at o)));
           ons =
               λ u o.
-              cases (eq-or-ne u t) (λ e. rw (enter-look u, eq-eqb u t e) (rw e itself))
+              cases (eq-or-ne u t) (λ e. rw (enter-look u, eq-eqb u t e) (rw e (itself _)))
               (λ n. rw (enter-look u, ne-eqb u t n) (another u n (rw (ne-eqb u t n) at o)));
           holders =
               λ s some.

@@ -1,19 +1,18 @@
 -- Every call on a sound record, reached by a list or not, hands back a sound one: so a list of calls does, and on a sound record with speed
 -- due the four steps of a cycle are done.
 use Prim.Native.Nat.{ℕ, _≤_}
-use mathlib.Core.Path.{_≡_, refl, sym, ap, _∙_}
-use mathlib.Core.Logic.{_⊎_, inl, inr}
+use mathlib.Core.Path.{_≡_, refl}
+use mathlib.Core.Logic.{inl, inr}
 use mathlib.Core.Bool.{true, false}
 use mathlib.Core.List.{List, [], _∷_, map}
 use native.Mathlib.Omega.{arith}
 use lib.ListN.{replicate}
 use borrow.Author.Tests.{ltb-true, ltb-false, lt-ltb, eq-eqb}
 use Rattle.lists.specs.Words.{at}
-use Rattle.lists.proofs.Cases.{cases, lt-or-le}
-use Rattle.lists.proofs.Numbered.{nth-zero, nth-out, nth-where}
-use Rattle.tables.specs.Facts.{Meets}
+use Rattle.lists.proofs.Cases.{cases}
+use Rattle.lists.proofs.Numbered.{nth-where}
 use Rattle.trains.specs.Due.{speedDue, requestDue, grantDue, positionDue}
-use Rattle.trains.specs.Train.{mostTrains, journeyOf, off, trainAt, isOn, occupied, ahead}
+use Rattle.trains.specs.Train.{mostTrains, journeyOf, off, trainAt, isOn}
 use Rattle.trains.specs.Way.{wayOf}
 use Rattle.trains.proofs.Laws.{on-numbered}
 use Rattle.trains.proofs.Segments.{occupied-iff, ahead-iff}
@@ -22,14 +21,14 @@ use Rattle.answers.specs.declared.Answer.the-variants.{Done}
 use Rattle.answers.specs.Answers.{answerOf}
 use Rattle.area.specs.declared.Area.{Area}
 use Rattle.area.specs.Sound.{sound}
-use Rattle.area.specs.Calls.{outcome, speedTests, stepTests, afterSpeed, speedCall, afterRequest, requestCall, afterGrant, grantCall, afterPosition, positionCall}
+use Rattle.area.specs.Calls.{outcome, stepTests, afterSpeed, speedCall, afterRequest, requestCall, afterGrant, grantCall, afterPosition, positionCall}
 use Rattle.area.specs.SoundFacts.{SoundArea}
 use Rattle.area.proofs.Soundness.{sound-iff}
 use Rattle.separation.specs.Calls.{Call, Speed, Request, Grant, Position, called}
 use Rattle.separation.specs.Runs.{History, World, next, afterFrom, begin}
 use Rattle.separation.specs.Stays.{SoundRecord, StaysSound}
 use Rattle.separation.specs.Replies.{Reply, replies, cycle}
-use Rattle.separation.proofs.Kept.{Kept, kept-sound}
+use Rattle.separation.proofs.Kept.{kept-sound}
 use Rattle.separation.proofs.Going.{KeptIn, went-called}
 
 module _ (a : Area) (is : SoundRecord a) where

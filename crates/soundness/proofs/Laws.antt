@@ -1,6 +1,6 @@
 -- What a train at its place says of its speed: it stops within the end distance. The tests of all trains by the list of where they
 -- stand.
-use Prim.Native.Nat.{ℕ, _-_, _≤_}
+use Prim.Native.Nat.{ℕ, _≤_}
 use mathlib.Core.Path.{_≡_, ap, _∙_}
 use mathlib.Core.Bool.{true, _&&_}
 use mathlib.Core.List.{List}

@@ -4,7 +4,6 @@ use mathlib.Core.Path.{_≡_, refl, sym}
 use mathlib.Core.Logic.{_↔_}
 use mathlib.Core.Bool.{false}
 use native.Mathlib.Omega.{arith}
-use Rattle.lists.specs.Words.{at}
 use Rattle.lists.proofs.Cases.{is-false}
 use Rattle.tables.specs.declared.Tables.{Tables}
 use Rattle.tables.specs.Tables.{countOf, segmentAt}
@@ -12,7 +11,6 @@ use Rattle.tables.specs.Facts.{Consistent}
 use Rattle.tables.proofs.Routes.{segments-rise}
 use Rattle.trains.specs.declared.Train.{Train}
 use Rattle.trains.specs.Train.{movedTo, ownIn, ownOf, nextOf, ownLength, ownLimit, rearOf, occupied}
-use Rattle.trains.specs.Cycle.{low}
 use Rattle.trains.specs.Way.{startAfter}
 use Rattle.trains.proofs.Rear.{start-step, rear-iff}
 use Rattle.trains.proofs.Segments.{occupied-beneath}

@@ -12,7 +12,7 @@ use Rattle.tables.specs.Facts.{Consistent}
 use Rattle.tables.proofs.Distance.{distance-above}
 use Rattle.trains.specs.Due.{speedDue, grantDue}
 use Rattle.trains.specs.Train.{longestTrain, Journey, entered, asking, ownOf, ownLength, ownLimit, occupied}
-use Rattle.trains.specs.Cycle.{low, wants}
+use Rattle.trains.specs.Cycle.{wants}
 use Rattle.trains.specs.Sound.{toRun}
 use Rattle.trains.specs.Way.{startAfter}
 use Rattle.trains.proofs.Safety.{OnRoute, TrainOk, own-is, in-margin}

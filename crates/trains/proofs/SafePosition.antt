@@ -5,7 +5,6 @@ use mathlib.Core.Logic.{_⊎_, inl, inr}
 use mathlib.Core.Bool.{Bool, true, false, not, _&&_, and-false}
 use native.Mathlib.Omega.{arith}
 use borrow.Author.Tests.{lt-ltb}
-use Rattle.lists.specs.Words.{at}
 use Rattle.lists.proofs.Cases.{by-test, cases, lt-or-le, not-both, facts}
 use Rattle.tables.specs.declared.Tables.{Tables}
 use Rattle.tables.specs.Tables.{segmentAt, brakingDistance}
@@ -14,7 +13,7 @@ use Rattle.tables.proofs.Distance.{distance-above}
 use Rattle.trains.specs.declared.Train.{Train}
 use Rattle.trains.specs.Due.{speedDue, positionDue}
 use Rattle.trains.specs.Train.{movedTo, ownIn, ownOf, nextIn, nextOf, ownLength, holdsNext, occupied, ahead}
-use Rattle.trains.specs.Cycle.{low, movesIn, movesOn, moved, movedIn, released}
+use Rattle.trains.specs.Cycle.{movesIn, movesOn, moved, movedIn, released}
 use Rattle.trains.proofs.Segments.{occupied-beneath, beneath-occupied, own-occupied, ahead-next, ahead-same}
 use Rattle.trains.proofs.Safety.{TrainOk, run-now, run-later, own-is, next-is, in-margin, held-next, holds-not}
 use Rattle.trains.proofs.Moved.{beyond-free, next-free, Moved, stays-on, goes-on, under-before}

@@ -7,8 +7,7 @@ use mathlib.Core.Logic.{_⊎_, inl, inr}
 use mathlib.Core.Bool.{Bool, true, false, _&&_, and-eq-true-iff}
 use native.Mathlib.Omega.{arith}
 use lib.Dec.{ltb, eqb}
-use borrow.Author.Tests.{ltb-true, eqb-true, lt-ltb, le-ltb, eq-eqb, ne-eqb}
-use Rattle.lists.specs.Words.{at}
+use borrow.Author.Tests.{ltb-true, eqb-true, lt-ltb, eq-eqb, ne-eqb}
 use Rattle.lists.proofs.Cases.{if-case, by-test, cases, lt-or-le, not-both}
 use Rattle.tables.specs.declared.Tables.{Tables}
 use Rattle.tables.specs.Tables.{countOf, segmentAt, brakingDistance}
@@ -16,9 +15,9 @@ use Rattle.tables.specs.Facts.{IsSegment, Follows, Consistent}
 use Rattle.tables.proofs.Distance.{distance-mono}
 use Rattle.trains.specs.declared.Train.{Train}
 use Rattle.trains.specs.Due.{speedDue, grantDue}
-use Rattle.trains.specs.Train.{longestTrain, asking, ownIn, ownOf, nextIn, nextOf, ownLength, ownLimit, nextLimit, holdsNext, occupied, ahead}
+use Rattle.trains.specs.Train.{longestTrain, asking, ownIn, ownOf, nextOf, ownLength, ownLimit, nextLimit, holdsNext, occupied, ahead}
 use Rattle.trains.specs.Spot.{spotOf}
-use Rattle.trains.specs.Cycle.{low, wants}
+use Rattle.trains.specs.Cycle.{wants}
 use Rattle.trains.specs.Sound.{toRun}
 use Rattle.trains.specs.Way.{startAfter}
 use Rattle.trains.proofs.Segments.{next-there, next-none, occupied-beneath, occupied-same, ahead-same}

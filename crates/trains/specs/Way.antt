@@ -1,6 +1,5 @@
 -- Where the segments of a route start, counted along the route from its entry (document 01, "Whole runs"), and how far along it the
--- record has a train. The rear's way is less by the train's length; it is said with + throughout, since the rear may lie before the
--- route's start.
+-- record has a train's front.
 use Prim.Native.Nat.{ℕ, zero, suc, _+_, _-_}
 use Rattle.lists.specs.Words.{at}
 use Rattle.tables.specs.declared.Tables.{Tables}
