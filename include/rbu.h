@@ -9,11 +9,11 @@
 // - Sound means: the tables meet load's rules 4 to 10; the step due is one of four; every allocation is 0 or the number of a train on,
 //   and 0 above N; a train off is all zero; a train on stands at a place of a route, before its segment's end, at most at the limit
 //   there; its length is 1 to 20,000; every segment under it is allocated to it, its next may be, no other is; while its next is not
-//   allocated to it, or there is none, it can brake to a stand before its segment's end; while its next is, another step than speed is
-//   due and its speed takes it to its segment's end or past it, its speed is at most the limit of its next; and it asks exactly when
-//   grant is due, it is near its segment's end, and its next exists and is not allocated to it. docs/RULES.md, "A sound record", has it
-//   whole. A record that was started and handed on is sound; on one that is not, every call answers RBU_ANSWER_UNSOUND and changes
-//   nothing.
+//   allocated to it, or there is none, it comes to a stand before its segment's end if it brakes fully from the next speed step on; where
+//   its next is allocated to it, another step than speed is due, and position + speed is at or above its segment's length, its speed is
+//   at most the limit of its next; and asks is 1 exactly when grant is due, it is near its segment's end, and its next exists and is not
+//   allocated to it, and 0 otherwise. docs/RULES.md, "A sound record", has it in full. A record that was started and handed on is sound;
+//   on one that is not, every call answers RBU_ANSWER_UNSOUND and changes nothing.
 // - Memory: nothing is allocated, nothing is kept after a call, and there are no globals. The archive needs two functions of the C
 //   library, memcpy and memset. It is for x86-64 and the System V calling convention. The header is for C11 and for C++11.
 // - Threads: a function touches what it is handed and nothing else. Two threads may run calls on two records at the same time; on one

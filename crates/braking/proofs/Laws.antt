@@ -71,6 +71,3 @@ module _ (b : ℕ) (rate : 1 ≤ b) where
   pub B-step : (v : ℕ) → B b v ≡ S b (v - b)
   unfolding B
   B-step v = omega (arith, S-step v)
-
-  pub S-B : (v : ℕ) → S b v ≡ v + B b v
-  S-B v = omega (arith, S-step v, B-step v)

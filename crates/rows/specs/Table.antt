@@ -80,7 +80,8 @@ unfoldable pub allHold : List Row → Bool
 allHold [] = true
 allHold (x ∷ rows) = holds x && allHold rows
 
--- the values of S and B, the four edges of document 01, the edges of R-3, two runs, and the edges of R-4 and R-2
+-- the values of S and B, the four edges of document 01, the edges of R-3, two runs, the edges of R-4, a train too fast for its next, and
+-- the edges of R-2
 unfoldable pub table : List Row
 table =
     ValueS 10 5 5

@@ -17,6 +17,7 @@ use Rattle.trains.specs.Way.{wayOf}
 use Rattle.trains.proofs.Laws.{on-numbered}
 use Rattle.trains.proofs.Segments.{occupied-iff, ahead-iff}
 use Rattle.trains.proofs.Safety.{TrainOk}
+use Rattle.answers.specs.declared.Answer.{Answer}
 use Rattle.answers.specs.declared.Answer.the-variants.{Done}
 use Rattle.answers.specs.Answers.{answerOf}
 use Rattle.area.specs.declared.Area.{Area}
@@ -25,7 +26,7 @@ use Rattle.area.specs.Calls.{outcome, stepTests, afterSpeed, speedCall, afterRe
 use Rattle.area.specs.SoundFacts.{SoundArea}
 use Rattle.area.proofs.Soundness.{sound-iff}
 use Rattle.separation.specs.Calls.{Call, Speed, Request, Grant, Position, called}
-use Rattle.separation.specs.Runs.{History, World, next, afterFrom, begin}
+use Rattle.separation.specs.Runs.{History, World, next, afterFrom}
 use Rattle.separation.specs.Stays.{SoundRecord, StaysSound}
 use Rattle.separation.specs.Replies.{Reply, replies, cycle}
 use Rattle.separation.proofs.Kept.{kept-sound}
@@ -158,6 +159,6 @@ module _ (a : Area) (is : SoundRecord a) (due : a .due ≡ speedDue) (wish : ℕ
   unfolding replies
   cycle-done = rw (sped, asked, granted, moved)
 
-  pub cycle-due : afterFrom (begin a) (cycle wish) .area .due ≡ speedDue
-  unfolding afterFrom next begin afterPosition
-  cycle-due = rw (sped, asked, granted, moved)
+  pub cycle-due : (h : History) (answers : List Answer) → afterFrom (record { area = a; history = h; answers = answers }) (cycle wish) .area .due ≡ speedDue
+  unfolding afterFrom next afterPosition
+  cycle-due h answers = rw (sped, asked, granted, moved)

@@ -1,4 +1,4 @@
--- Every call on a sound record hands back a sound one, whether a list from a file leads to that record or not (document 01, "A sound
+-- Every call on a sound record hands back a sound one, whether a list from a file leads to that record or not (docs/RULES.md, "A sound
 -- record").
 use mathlib.Core.Path.{_≡_}
 use mathlib.Core.Bool.{true}
@@ -9,7 +9,7 @@ use Rattle.area.specs.declared.Area.{Area}
 use Rattle.area.specs.Sound.{sound}
 use Rattle.separation.specs.Calls.{Call, called}
 
--- a sound record; that its lists have the lengths of their arrays is what the type of a record says
+-- a sound record; that it has 62 allocations and 24 trains is what the type of a record says
 pub record SoundRecord (a : Area) : Type 0 where
   pub segments : length (a .allocations) ≡ mostSegments
   pub numbers : length (a .trains) ≡ mostTrains

@@ -43,7 +43,7 @@ countOf routebytes r = at routebytes (32 * r - 31)
 unfoldable pub segmentAt : List ℕ → ℕ → ℕ → ℕ
 segmentAt routebytes r p = at routebytes (32 * r - 31 + p)
 
--- the braking distance in an area: S at the area's rate. Every braking distance of an area goes by this name
+-- the braking distance at a rate b, and in an area: S at the area's rate. Every braking distance of an area goes by these two names
 abbrev pub distanceIn : (b : ℕ) → (v : ℕ) → ℕ
 distanceIn b = S b
 

@@ -1,7 +1,7 @@
 -- The order of the refusals that come after 11: of enter, of leave and of the steps (document 01, "Refusals"; document 02, R-4: "23, length
 -- outside the bounds, after 16"). Each is given whatever the conditions after it are. Numbers and bounds stand here as the papers have them.
 use Prim.Native.Nat.{ℕ, _≤_, _<_}
-use mathlib.Core.Path.{_≡_}
+use mathlib.Core.Path.{_≡_, refl}
 use mathlib.Core.Logic.{_⊎_}
 use mathlib.Core.Bool.{true, false, not, _&&_}
 use mathlib.Core.List.{List, [], _∷_}
@@ -16,6 +16,13 @@ use Rattle.trains.specs.Due.{speedDue}
 use Rattle.trains.specs.Train.{Journey, trainAt, isOn, ownOf}
 use Rattle.trains.specs.Cycle.{dueTests, wishTests}
 use Rattle.trains.specs.EnterLeave.{firstSegment, isEntry, isExit, isLast, entryTests, exitTests}
+
+-- ---- THE CLAIM: flags: 1 entry, 2 exit, 3 both, 0 none
+pub flags-say :
+    (T : Tables) (s : ℕ)
+    → (at (T .flags) s ≡ 0 → (isEntry T s ≡ false) × (isExit T s ≡ false)) × (at (T .flags) s ≡ 1 → (isEntry T s ≡ true) × (isExit T s ≡ false))
+    × (at (T .flags) s ≡ 2 → (isEntry T s ≡ false) × (isExit T s ≡ true)) × (at (T .flags) s ≡ 3 → (isEntry T s ≡ true) × (isExit T s ≡ true))
+flags-say T s = (λ e. rw e (refl, refl), λ e. rw e (refl, refl), λ e. rw e (refl, refl), λ e. rw e (refl, refl))
 
 -- ---- enter: 13, 14, 16, 23, 17, 18, 19
 module _ (T : Tables) (A : List ℕ) (trains : List Train) (t : ℕ) (j : Journey) (v : ℕ) where

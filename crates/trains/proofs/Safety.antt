@@ -1,6 +1,6 @@
--- What holds of one train on the area at every call, and of a train whose segments stay as they are. No lists of trains or allocations:
--- `held` says who holds a segment, `way` is the way since its enter, `got` what grant steps since then allocated to it. The files Safe..
--- have what each call does to it; leave takes it off, and of the other trains nothing changes (`frame`).
+-- What holds of one train on the area at every call; and it goes on holding of a train whose segments stay as they are (`frame`). No lists
+-- of trains or allocations: `held` says who holds a segment, `way` is the way since its enter, `got` what grant steps since then allocated
+-- to it. The files Safe.. have what each call does to it; leave takes it off.
 use Prim.Native.Nat.{ℕ, _+_, _-_, _≤_, _<_}
 use mathlib.Core.Path.{_≡_, refl, sym, ap, _∙_}
 use mathlib.Core.Logic.{_⊎_, inl, inr}
@@ -9,6 +9,7 @@ use native.Mathlib.Omega.{arith}
 use lib.Dec.{ltb, eqb}
 use borrow.Author.Tests.{ltb-true, eqb-true, lt-ltb, eq-eqb, ne-eqb}
 use Rattle.lists.proofs.Cases.{if-case, by-test, cases, lt-or-le, not-both}
+use Rattle.braking.specs.Braking.{B}
 use Rattle.tables.specs.declared.Tables.{Tables}
 use Rattle.tables.specs.Tables.{countOf, segmentAt, brakingDistance}
 use Rattle.tables.specs.Facts.{IsSegment, Follows, Consistent}
@@ -45,6 +46,11 @@ pub record TrainOk (T : Tables) (due : ℕ) (held : ℕ → ℕ) (t : ℕ) (x : 
 pub run-now : (S : ℕ → ℕ) (v : ℕ) → toRun S speedDue v ≡ S v - v
 unfolding toRun
 run-now S v = refl
+
+-- THE CLAIM: with speed due the way still to run is B(speed)
+pub run-B : (T : Tables) (v : ℕ) → toRun (brakingDistance T) speedDue v ≡ B (T .braking) v
+unfolding toRun B
+run-B T v = refl
 
 pub run-later : (S : ℕ → ℕ) (due v : ℕ) → speedDue < due → toRun S due v ≡ S v
 unfolding toRun
