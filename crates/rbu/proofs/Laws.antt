@@ -72,7 +72,8 @@ module _
       (λ d size room. back file size (ap (λ (a : Area). a .tables) ran-area ∙ tables-after d) room ∙ ran-area)
 
   pub told-refused : (n ≡ 0 → ⊥) → RunTold before
-  told-refused h = told before (rw (ne-eqb (numberOf (loaded file .answer)) 0 (λ z. h (number ∙ ap numberOf answer ∙ z)))) (λ z. absurd (h (number ∙ ap numberOf answer ∙ z)))
+  told-refused h = told before (rw (ne-eqb (numberOf (loaded file .answer)) 0 (λ z. h (number ∙ ap numberOf answer ∙ z))))
+      (λ z. absurd (h (number ∙ ap numberOf answer ∙ z)))
 
 -- ---- from any record at all
 -- the tables of the record after the calls are those that the file's bytes spell
@@ -91,7 +92,8 @@ pub record-told :
     × Continues file before state (ranOf (recordOf file before) script (length old) .area)))
 record-told file script old before a e ran f answers g state (h, back) =
     let same : ran ≡ ranOf (recordOf file before) script (length old) = rw e at f in
-    let area = ap (λ (x : Ran). x .area) same in (
+    let area = ap (λ (x : Ran). x .area) same in
+    let tables : length file ≡ fileSize → ran .area .tables ≡ decoded file = λ size. rw area (tables-ran file script before (length old) size) in (
       ap (λ (x : Ran). x .calls) same,
-      (rw e at g, (h ∙ ap (λ (x : Area). stateInto x before) area, λ size room. back file size (ap (λ (x : Area). x .tables) area ∙ tables-ran file script before (length old) size) room ∙ area)),
+      (rw e at g, (h ∙ ap (λ (x : Area). stateInto x before) area, λ size room. back file size (tables size) room ∙ area)),
     )

@@ -1,3 +1,4 @@
+pub mod Lists
 pub mod Kept
 pub mod Keeping
 pub mod Going
@@ -6,5 +7,4 @@ pub mod Fields
 pub mod Demand3
 pub mod Ways
 pub mod Tables
-pub mod Lists
 pub mod Stays

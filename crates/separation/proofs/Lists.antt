@@ -36,6 +36,12 @@ replies-answers w [] = sym (append-nil (w .answers))
 replies-answers w (c ∷ calls) =
     replies-answers (next w c) calls ∙ append-assoc (w .answers) (called (w .area) c .answer ∷ []) (answersOf (replies (called (w .area) c .area) calls))
 
+-- THE CLAIM: after an enter of a train that is done, no segment counts as granted to it: what counts is granted since
+pub enter-forgets :
+    (w : World) (t : ℕ) (j : Journey) (v s : ℕ) → isDone (called (w .area) (Enter t j v) .answer) ≡ true → next w (Enter t j v) .history .granted t s ≡ false
+unfolding next noted
+enter-forgets w t j v s done = rw (done, eq-eqb t t refl)
+
 -- what counts as granted after a call that is done
 noted-by :
     (w : World) (c : Call) (b : Area) (t s : ℕ) → noted (w .history) c (w .area) b .granted t s ≡ true
@@ -60,9 +66,3 @@ pub granted-by :
 unfolding next
 granted-by w c t s g =
     by-test (isDone (called (w .area) c .answer)) (λ d. noted-by w c (called (w .area) c .area) t s (rw d at g)) (λ d. inl (rw d at g))
-
--- THE CLAIM: after an enter of a train that is done, no segment counts as granted to it: what counts is granted since
-pub enter-forgets :
-    (w : World) (t : ℕ) (j : Journey) (v s : ℕ) → isDone (called (w .area) (Enter t j v) .answer) ≡ true → next w (Enter t j v) .history .granted t s ≡ false
-unfolding next noted
-enter-forgets w t j v s done = rw (done, eq-eqb t t refl)

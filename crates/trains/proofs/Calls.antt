@@ -20,17 +20,24 @@ use Rattle.trains.specs.EnterLeave.{freedBy, becomes}
 pub near-iff : (T : Tables) (held : ℕ → ℕ) (t : ℕ) (x : Train) → (spotOf T held t x .near ≡ true) ↔ (ownLength T x - T .margin ≤ x .position)
 near-iff T held t x = (leb-true (ownLength T x - T .margin) (x .position), le-leb (ownLength T x - T .margin) (x .position))
 
--- THE CLAIM: a train wants to ask exactly where it is near, has a next, and that is not allocated to it
-pub wants-iff :
-    (T : Tables) (held : ℕ → ℕ) (t : ℕ) (x : Train)
-    → (wants (spotOf T held t x) ≡ true) ↔ ((ownLength T x - T .margin ≤ x .position) × (1 ≤ nextOf T x) × (held (nextOf T x) ≡ t → ⊥))
-unfolding wants
-wants-iff T held t x = (
-  λ w.
-      let f = simp facts at w in
-      (f .0 .0, f .0 .1, λ e. not-both (holdsNext T held t x) (rw (lt-ltb 0 (nextOf T x) (f .0 .1), eq-eqb (held (nextOf T x)) t e)) (f .1)),
-  λ f. rw (le-leb (ownLength T x - T .margin) (x .position) (f .0), lt-ltb 0 (nextOf T x) (f .1), ne-eqb (held (nextOf T x)) t (f .2)),
-)
+-- THE CLAIM: a train wants to ask where it is near, has a next, and that is not allocated to it; and only there
+module _ (T : Tables) (held : ℕ → ℕ) (t : ℕ) (x : Train) where
+  abbrev MayAsk : Type 0
+  MayAsk = (ownLength T x - T .margin ≤ x .position) × (1 ≤ nextOf T x) × (held (nextOf T x) ≡ t → ⊥)
+
+  wants-there : MayAsk → wants (spotOf T held t x) ≡ true
+  unfolding wants
+  wants-there f =
+      rw (le-leb (ownLength T x - T .margin) (x .position) (f .0), lt-ltb 0 (nextOf T x) (f .1), ne-eqb (held (nextOf T x)) t (f .2))
+
+  pub wants-iff : (wants (spotOf T held t x) ≡ true) ↔ MayAsk
+  unfolding wants
+  wants-iff = (
+    λ w.
+        let f = simp facts at w in
+        (f .0 .0, f .0 .1, λ e. not-both (holdsNext T held t x) (rw (lt-ltb 0 (nextOf T x) (f .0 .1), eq-eqb (held (nextOf T x)) t e)) (f .1)),
+    wants-there,
+  )
 
 -- THE CLAIM: entries of trains off are ignored
 pub sped-off : (T : Tables) (A wishes : List ℕ) (t : ℕ) (x : Train) → isOn x ≡ false → sped T A wishes t x ≡ x

@@ -11,5 +11,5 @@ use Rattle.rbu.proofs.rbu_leave.Code as code
 
 pub rbu-leave-spec : {M : Type 1} → statement M
 unfolding code.routine
-rbu-leave-spec 𝓤 H 𝓜 𝓖 𝓡 =
-    call-holds 𝓤 H 𝓜 𝓖 𝓡 code.env #own #told routine code.calls-running·leave {m = 0} (number ∷ []) (λ κs x a n b. Answered a (Leave (x .0)) n b) (code.unfolded 𝓤 H 𝓜 𝓡) (met 𝓤 H 𝓜 𝓖 𝓡)
+rbu-leave-spec 𝓤 H 𝓜 𝓖 𝓡 = call-holds 𝓤 H 𝓜 𝓖 𝓡 code.env #own #told routine code.calls-running·leave (number ∷ [])
+    (λ κs x a n b. Answered a (Leave (x .0)) n b) (code.unfolded 𝓤 H 𝓜 𝓡) (met 𝓤 H 𝓜 𝓖 𝓡)

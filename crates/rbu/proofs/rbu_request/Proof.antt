@@ -10,5 +10,5 @@ use Rattle.rbu.proofs.rbu_request.Code as code
 
 pub rbu-request-spec : {M : Type 1} → statement M
 unfolding code.routine
-rbu-request-spec 𝓤 H 𝓜 𝓖 𝓡 =
-    call-holds 𝓤 H 𝓜 𝓖 𝓡 code.env #own #told routine code.calls-running·request {m = 0} [] (λ κs x a n b. Answered a Request n b) (code.unfolded 𝓤 H 𝓜 𝓡) (met 𝓤 H 𝓜 𝓖 𝓡)
+rbu-request-spec 𝓤 H 𝓜 𝓖 𝓡 = call-holds 𝓤 H 𝓜 𝓖 𝓡 code.env #own #told routine code.calls-running·request []
+    (λ κs x a n b. Answered a Request n b) (code.unfolded 𝓤 H 𝓜 𝓡) (met 𝓤 H 𝓜 𝓖 𝓡)

@@ -12,5 +12,5 @@ use Rattle.rbu.proofs.rbu_speed.Code as code
 
 pub rbu-speed-spec : {M : Type 1} → statement M
 unfolding code.routine
-rbu-speed-spec 𝓤 H 𝓜 𝓖 𝓡 =
-    call-holds 𝓤 H 𝓜 𝓖 𝓡 code.env #own #told routine code.calls-running·speed {m = 1} (words ∷ []) (λ κs x a n b. Answered a (Speed (now (x .0))) n b) (code.unfolded 𝓤 H 𝓜 𝓡) (met 𝓤 H 𝓜 𝓖 𝓡)
+rbu-speed-spec 𝓤 H 𝓜 𝓖 𝓡 = call-holds 𝓤 H 𝓜 𝓖 𝓡 code.env #own #told routine code.calls-running·speed (words ∷ [])
+    (λ κs x a n b. Answered a (Speed (now (x .0))) n b) (code.unfolded 𝓤 H 𝓜 𝓡) (met 𝓤 H 𝓜 𝓖 𝓡)
