@@ -198,7 +198,7 @@ module _ {M : Type 1} (𝓤 : URA M) (H : Heap 𝓤) (A : Atoms 𝓤) (W : Given
     abbrev at : Vals (lent fs .signature) κs
     at = (ptr-vals (a .0), vals κs fs (a .1))
 
-    -- [obs; the borrow; its token; the other tokens]
+    -- the end: [obs; the borrow; its token; the other tokens]
     exits : (r : Change) → Said (κs .1) (handed κs fs (a .1)) (now (a .0)) (r .number) (changed (now (a .0)) r) → r .number < 2 ^ 8
         → Sq W (Held Rec.the-row (κs .0) (qs .0) (a .0) (changed (now (a .0)) r) (raw (toks 𝓤 A m (κs .1) (qs .1)) ∷ []))
         (prop (walkOf 𝓤 H A (lent fs) (stayed fs) (lent-says fs 𝓤 Said) .post ((κs, qs, tt, a, at), tt) (vint w8 (r .number))))
@@ -248,13 +248,13 @@ module _ {M : Type 1} (𝓤 : URA M) (H : Heap 𝓤) (A : Atoms 𝓤) (W : Given
     abbrev start-at : Vals start.signature κs
     start-at = (ptr-vals (a .0), (slice-vals (a .1 .0), (ptr-vals (a .1 .1 .0), tt)))
 
-    -- [the place's obs, borrow and token; the record's; the file's token]
+    -- the end: [the place's obs, borrow and token; the record's; the file's token]
     start-exits : (r : ToldStart) → loads (κs .1 .0, tt) (a .1 .0, tt) r (a .1 .0, tt) → r .number < 2 ^ 8
         → Sq W (Held u16 (κs .1 .1 .0) (qs .1 .1 .0) (a .1 .1 .0) (r .place)
         (Held Rec.the-row (κs .0) (qs .0) (a .0) (r .area) (raw (toks 𝓤 A 1 (κs .1 .0, tt) (qs .1 .0, tt)) ∷ [])))
         (prop (walkOf 𝓤 H A start.ended start-stayed (start.clauses 𝓤 H A at-mem run) .post ((κs, qs, tt, a, start-at), tt) (vint w8 (r .number))))
-    start-exits r e fits = suffices ! _ (ends-at 𝓤 H A start.ended start-stayed (start.clauses 𝓤 H A at-mem run) W ((κs, qs, tt, a, start-at), tt) (vint w8 (r .number))
-        (r .number) (r .area, (tt, (r .place, tt))) (tt, (tt, (tt, tt)))) $ says ! e $ move ! (6 ∷ []) $
+    start-exits r e fits = suffices ! _ (ends-at 𝓤 H A start.ended start-stayed (start.clauses 𝓤 H A at-mem run) W ((κs, qs, tt, a, start-at), tt)
+        (vint w8 (r .number)) (r .number) (r .area, (tt, (r .place, tt))) (tt, (tt, (tt, tt)))) $ says ! e $ move ! (6 ∷ []) $
         use1 W (‵ (flft (κs .1 .0) (qs .1 .0)) ⊛ ‵ ftrue) (id⊢ 𝓤 _) $ split ! $ move ! (4 ∷ 1 ∷ []) $ join ! $ move ! (1 ∷ 0 ∷ []) $ join ! $
         move ! (5 ∷ 0 ∷ []) $ join ! $ frame ! $ feqI ! (List Val) (ptr-vals (a .1 .1 .0)) (ptr-vals (a .1 .1 .0)) refl $ fjoin3 ! $ nothing ! $
         move ! (1 ∷ 0 ∷ []) $ fjoin ! $ nothing ! $ fjoin ! $ move ! (1 ∷ 2 ∷ []) $ feqI ! (List Val) (ptr-vals (a .0)) (ptr-vals (a .0)) refl $ fjoin3 ! $
@@ -279,7 +279,8 @@ module _ {M : Type 1} (𝓤 : URA M) (H : Heap 𝓤) (A : Atoms 𝓤) (W : Given
         move ! (14 ∷ 15 ∷ 16 ∷ []) $ stored ! u16 (uint-vals w16) (uint-tells w16) (uint-makes 𝓤 H A W w16) (a .1 .1 .0) (r .place) (fields .1 .0)
         (field-of ! 9 refl (whole !) refl) (from ! (hop ! (look ! 11 refl) (stop !))) (store-raw ! 0 refl (tt, record { fits = fields .1 .0 .1 })) $
         assigns ! (field-of ! 7 refl (whole !) refl) (from ! (stop !)) (init ! 15 refl (tt, record { fits = fields .0 .1 })) $ returns ! (look ! 15 refl) $
-        freed ! 15 refl refl $ freed ! 13 refl refl $ freed ! 11 refl refl $ freed ! 9 refl refl $ freed ! 7 refl refl $ free0 ! $ start-exits r e (fields .0 .1)))))))
+        freed ! 15 refl refl $ freed ! 13 refl refl $ freed ! 11 refl refl $ freed ! 9 refl refl $ freed ! 7 refl refl $ free0 ! $
+        start-exits r e (fields .0 .1)))))))
 
   module _ (at-mem : Memory → SProp 𝓤) (run : Routine → Fun 𝓤) (κs : Lfts 3) (qs : Shares 3) (a : Args report.signature κs) where
     abbrev report-at : Vals report.signature κs
