@@ -91,11 +91,18 @@ def main():
         mark = "--" if path.endswith(".antt") else "//"
         with open(path) as f:
             text = f.read()
+        # What a file has from a library keeps its name there.
+        kept = set()
+        for module, taken in re.findall(r"^(?:pub )?use ([^\s{]+)\.\{([^}]*)\}", text, re.M):
+            part = module.split(".")
+            if part[0] != "Rattle" or not os.path.isdir(os.path.join("crates", part[1])):
+                kept |= set(re.split(r",\s*", taken))
+        here = {n: t for n, t in table.items() if n not in kept}
         lines = []
         for line in text.split("\n"):
             at = re.search(r"(^|\s)" + mark + r"(\s|$)", line)
             code, comment = (line[: at.start()], line[at.start() :]) if at else (line, "")
-            lines.append(turn(code, table) + turn(comment, english))
+            lines.append(turn(code, here) + turn(comment, english))
         new = "\n".join(lines)
         if new != text:
             with open(path, "w") as f:

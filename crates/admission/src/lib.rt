@@ -1,5 +1,7 @@
 // The tests of enter and leave in their order: the number of the first that holds, 0 where none does; `ok` says whether the record is
 // sound. What they read of the tables is lent, and the answer holds of all tables T that agree with it.
+#![tactic(auto)]
+
 ghost use Rattle.std.specs.Prelude.{◌≡◌, not, ◌∷◌};
 ghost use Rattle.lists.specs.Tests.{◌⇒◌, first_of};
 ghost use Rattle.tables.specs.declared.Tables.{Tables};

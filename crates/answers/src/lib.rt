@@ -1,4 +1,6 @@
 // What a call answers: done, or a refusal with its number in the papers and the place that it names.
+#![tactic(auto)]
+
 ghost use Rattle.std.specs.Prelude.{◌≡◌};
 ghost use Rattle.answers.specs.Answers.{answer_of, number_of, place_of};
 

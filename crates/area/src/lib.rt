@@ -1,6 +1,8 @@
 // An area by value, and its calls: each takes the record and hands it back in an outcome. A refusal hands it back as it came. A call
 // first has the record examined and then works out what it changes of it. Both are lent the tables' arrays, since a record is some 2 KB
 // and each copy of it is stack. Report and write hand no record back.
+#![tactic(auto)]
+
 ghost use Rattle.std.specs.Prelude.{ℕ, ◌≡◌, true};
 ghost use Rattle.trains.specs.Train.{train_at};
 ghost use Rattle.steps.specs.Room.{Room};

@@ -1,5 +1,7 @@
 // Document 01's run of Area A: reads the file that is named, or standard input, enters train 1 on route 1 and train 2 on route 2,
 // runs six cycles and lists where both trains are after each. A refusal is one line, and the listing goes no further.
+#![tactic(auto)]
+
 use answers::Answer;
 use area::{Area, Outcome};
 use libc::STDOUT_FILENO;

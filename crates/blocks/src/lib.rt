@@ -1,4 +1,6 @@
 // The blocks of an area file as parts of it, and what each block carries at its end.
+#![tactic(auto)]
+
 ghost use Rattle.std.specs.Prelude.{◌≡◌, ◌<◌, [], ◌∷◌, length, take};
 ghost use Rattle.file.specs.Layout.{block_size, file_size, in_tail, kind_of};
 ghost use Rattle.file.specs.Blocks.{block, sums, intact, filed, block_meets, first_breaking, first_damaged, first_misfiled};

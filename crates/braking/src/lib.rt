@@ -1,4 +1,6 @@
 // The braking distance.
+#![tactic(auto)]
+
 ghost use Rattle.std.specs.Prelude.{◌≡◌, ◌≤◌};
 ghost use Rattle.braking.specs.Braking.{S};
 ghost use Rattle.braking.specs.Distance.{distance_at};

@@ -1,5 +1,7 @@
 // What a program reads and prints: an input to its end, and a number after a text. What prints says whether it was written, and
 // prints nothing more once a write has failed.
+#![tactic(auto)]
+
 ghost use Rattle.std.specs.Prelude.{◌≤◌, length};
 ghost use Rattle.io.specs.Counts.{IsPrefixLen};
 

@@ -1,5 +1,7 @@
 // What becomes of all trains and allocations at speed, request and position. All three read where each train stands; position is also
 // lent the arrays of the tables by which it finds the rear again.
+#![tactic(auto)]
+
 ghost use Rattle.std.specs.Prelude.{◌≡◌, ℕ, eqb};
 ghost use Rattle.lists.specs.Words.{if◌then◌else◌, at, each};
 ghost use Rattle.trains.specs.Train.{train_at};

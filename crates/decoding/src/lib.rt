@@ -1,4 +1,6 @@
 // The tables that an area file holds. The file is lent and only read.
+#![tactic(auto)]
+
 ghost use Rattle.std.specs.Prelude.{◌≡◌, ◌<◌, ◌+◌, length};
 ghost use Rattle.lists.specs.Words.{tabulate};
 ghost use Rattle.file.specs.Layout.{file_size, segment_start};

@@ -5,7 +5,7 @@ use mathlib.Core.Path.{◌≡◌, refl, sym, ap, ◌∙◌}
 use mathlib.Core.List.{List, ◌++◌, append-nil, append_assoc}
 use native.Mathlib.Nat.{mul-suc, mul-zero, zero-add, not-suc-le-zero}
 use native.Mathlib.Omega.{arith}
-use lib.ListN.{length, take, drop, length_append, length-take, length-drop, get_or-append}
+use lib.ListN.{length, take, drop, length-append, length-take, length-drop, get_or-append}
 use lib.Seq.{ext_get_or, get_or-append-add, get_or-take, get_or-drop}
 use Rattle.lists.specs.Words.{tabulate}
 use Rattle.lists.proofs.Numbered.{nth_in, nth_index, nth_tabulate, length_tabulate}
@@ -28,7 +28,7 @@ module _ (w : ℕ) where
   unfolding rows
   rows_long zero f each = sym (mul-zero w)
   rows_long (suc n) f each =
-      length_append (f 1) (rows n (λ (k : ℕ). f (suc k)))
+      length-append (f 1) (rows n (λ (k : ℕ). f (suc k)))
       ∙ rw (each 1, rows_long n (λ (k : ℕ). f (suc k)) (λ k. each (suc k)), mul-suc w n) (omega arith)
 
   -- byte i of row j + 1

@@ -3,7 +3,7 @@ use Prim.Native.Nat.{ℕ, ◌+◌, ◌*◌}
 use mathlib.Core.Path.{◌≡◌}
 use mathlib.Core.List.{List, ◌++◌}
 use native.Mathlib.Omega.{arith}
-use lib.ListN.{length, length_append}
+use lib.ListN.{length, length-append}
 use Rattle.file.specs.Bytes.{put_at}
 use Rattle.file.specs.Layout.{block_size, file_size}
 use Rattle.file.specs.Blocks.{block_of}
@@ -21,9 +21,9 @@ module _ (b0 b1 b2 b3 b4 old : List ℕ) (l0 : length b0 ≡ block_size) (l1 : l
       ≡ put_at 0 (b0 ++ b1 ++ b2 ++ b3 ++ b4) old
   five_put =
       let e1 : 0 + length b0 ≡ block_size * 1 = omega arith in
-      let e2 : 0 + length (b0 ++ b1) ≡ block_size * 2 = simp length_append (omega arith) in
-      let e3 : 0 + length (b0 ++ b1 ++ b2) ≡ block_size * 3 = simp length_append (omega arith) in
-      let e4 : 0 + length (b0 ++ b1 ++ b2 ++ b3) ≡ block_size * 4 = simp length_append (omega arith) in
+      let e2 : 0 + length (b0 ++ b1) ≡ block_size * 2 = simp length-append (omega arith) in
+      let e3 : 0 + length (b0 ++ b1 ++ b2) ≡ block_size * 3 = simp length-append (omega arith) in
+      let e4 : 0 + length (b0 ++ b1 ++ b2 ++ b3) ≡ block_size * 4 = simp length-append (omega arith) in
       rw (rw e1 at (put_next 0 b0 b1 old), rw e2 at (put_next 0 (b0 ++ b1) b2 old), rw e3 at (put_next 0 (b0 ++ b1 ++ b2) b3 old))
       (rw e4 at (put_next 0 (b0 ++ b1 ++ b2 ++ b3) b4 old))
 
@@ -47,7 +47,7 @@ module _ (T : Tables) where
   -- THE CLAIM: a file that is written has 2,560 bytes
   pub encoded_long : length (encoded T) ≡ file_size
   unfolding encoded
-  encoded_long = simp (length_append, long0, long_segments, long_routes)
+  encoded_long = simp (length-append, long0, long_segments, long_routes)
 
   -- THE CLAIM: five blocks put at their places are the file, put at the buffer's start
   pub encoded_put :

@@ -1,4 +1,6 @@
 // An area's tables as a file, into a lent buffer. The tables' arrays are lent and only read.
+#![tactic(auto)]
+
 ghost use Rattle.std.specs.Prelude.{◌≡◌, ◌*◌, ◌≤◌, ◌<◌, length};
 ghost use Rattle.file.specs.Bytes.{put_at};
 ghost use Rattle.file.specs.Layout.{block_size, header_bytes};

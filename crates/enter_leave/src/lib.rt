@@ -1,4 +1,6 @@
 // What enter and leave ask of a segment, and what becomes of the trains and of the allocations at these two.
+#![tactic(auto)]
+
 ghost use Rattle.std.specs.Prelude.{◌≡◌, not, ◌&&◌, [], ◌∷◌, ◌/◌, ◌%◌, ltb, eqb};
 ghost use Rattle.lists.specs.Words.{if◌then◌else◌, at, each};
 ghost use Rattle.lists.specs.Tests.{◌⇒◌, first_of};

@@ -7,7 +7,7 @@ use mathlib.Core.List.{List, [], ◌∷◌, ◌++◌}
 use mathlib.Core.Logic.{inl, inr}
 use native.Mathlib.Omega.{arith}
 use lib.Dec.{ltb}
-use lib.ListN.{length, take, drop, replicate, length_append, length-drop, take-append-drop, drop_of_length-le, get_or-append, get_or-eq_default}
+use lib.ListN.{length, take, drop, replicate, length-append, length-drop, take-append-drop, drop_of_length-le, get_or-append, get_or-eq_default}
 use lib.Seq.{ext_get_or, get_or-take, get_or-drop, get_or-append-add, take_at, drop-cons, length-take-le}
 use borrow.Author.Tests.{eq-eqb, lt-ltb}
 use Rattle.lists.proofs.Cases.{cases, lt_or_le, either_yes}
@@ -30,7 +30,7 @@ module _ (k : ℕ) (held : List ℕ) (fits : length held ≤ in_tail.kind) where
   tail = kind_of k ∷ k ∷ replicate 12 0
 
   covered_long : length (covered_bytes k held) ≡ in_tail.check
-  covered_long = length_append (body held) tail ∙ rw (body_long held fits)
+  covered_long = length-append (body held) tail ∙ rw (body_long held fits)
 
   covered_body : (i : ℕ) → i < in_tail.kind → byte_at (covered_bytes k held) i ≡ byte_at held i
   covered_body i inside = get_or-append (body held) tail 0 i (rw (body_long held fits) inside) ∙ padded held (in_tail.kind - length held) i

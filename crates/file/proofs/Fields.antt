@@ -4,7 +4,7 @@ use mathlib.Core.Path.{◌≡◌, refl}
 use mathlib.Core.List.{List, [], ◌∷◌, ◌++◌, append_assoc}
 use native.Mathlib.Nat.{add_assoc}
 use native.Mathlib.Omega.{arith}
-use lib.ListN.{length, replicate, length_append, length-replicate}
+use lib.ListN.{length, replicate, length-append, length-replicate}
 use lib.Seq.{get_or-append-add}
 use Rattle.file.specs.Bytes.{byte_at, two_at, four_at, two, four}
 use Rattle.file.specs.Layout.{in_tail, kind_of, block_bytes, version, in_header, header_bytes, in_segment, segment_bytes}
@@ -49,7 +49,7 @@ abbrev pub body : (held : List ℕ) → List ℕ
 body held = held ++ replicate (in_tail.kind - length held) 0
 
 pub body_long : (held : List ℕ) → length held ≤ in_tail.kind → length (body held) ≡ in_tail.kind
-body_long held fits = simp (length_append, length-replicate) (omega arith)
+body_long held fits = simp (length-append, length-replicate) (omega arith)
 
 -- a byte of the tail, by its place in the block
 module _ (number : ℕ) (held : List ℕ) (first second : ℕ) (fits : length held ≤ in_tail.kind) where

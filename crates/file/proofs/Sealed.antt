@@ -4,7 +4,7 @@ use mathlib.Core.Path.{◌≡◌, sym, ap, ◌∙◌}
 use mathlib.Core.List.{List, [], ◌∷◌, ◌++◌, append_assoc}
 use native.Mathlib.Nat.{suc-add, zero-add}
 use native.Mathlib.Omega.{arith}
-use lib.ListN.{length, get_or, set, take, drop, replicate, length_append, length-replicate, replicate-append-replicate}
+use lib.ListN.{length, get_or, set, take, drop, replicate, length-append, length-replicate, replicate-append-replicate}
 use lib.Seq.{take_all, take-append-add}
 use Rattle.file.specs.Bytes.{put_at}
 use Rattle.file.specs.Layout.{block_size, in_tail, kind_of, covered_bytes}
@@ -34,7 +34,7 @@ put_padding n row fits =
 module _ (number : ℕ) (held : List ℕ) (fits : length held ≤ in_tail.kind) where
   pub block_long : length (block_of number held) ≡ block_size
   unfolding block_of
-  block_long = simp (length_append, length-replicate) (omega arith)
+  block_long = simp (length-append, length-replicate) (omega arith)
 
   -- what is set in the tail, and what is covered up to it
   set_in_tail : (s : List ℕ) (i x : ℕ) → set (body held ++ s) (in_tail.kind + i) x ≡ body held ++ set s i x

@@ -1,4 +1,6 @@
 // What becomes of the trains and of the allocations at grant. Of the tables only the routes are read, which are lent.
+#![tactic(auto)]
+
 ghost use Rattle.std.specs.Prelude.{◌≡◌, ◌||◌, eqb};
 ghost use Rattle.lists.specs.Words.{if◌then◌else◌, at, each, tabulate, ◌or_else◌};
 ghost use Rattle.tables.specs.declared.Tables.{Tables};

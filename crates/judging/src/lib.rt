@@ -1,4 +1,6 @@
 // From a file to its verdict and its tables. The file is lent and only read.
+#![tactic(auto)]
+
 ghost use Rattle.std.specs.Prelude.{◌≡◌, ◌<◌, ◌+◌, length};
 ghost use Rattle.lists.specs.Words.{first_failing};
 ghost use Rattle.lists.specs.Tests.{first_of};

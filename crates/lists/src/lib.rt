@@ -1,4 +1,6 @@
 // The entry of a lent list by its number, counted from 1; 0 where there is none. Total, so that no caller shows a bound.
+#![tactic(auto)]
+
 ghost use Rattle.std.specs.Prelude.{◌≡◌};
 ghost use Rattle.lists.specs.Words.{at};
 

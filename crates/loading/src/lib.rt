@@ -1,4 +1,6 @@
 // From a file to an area, or to the blank record with what is wrong with the file. The file is lent and only read.
+#![tactic(auto)]
+
 ghost use Rattle.std.specs.Prelude.{◌≡◌};
 ghost use Rattle.loading.specs.Load.{fresh, loaded};
 

@@ -1,4 +1,6 @@
 // What the tables say of a segment and of a route. Arrays are lent, so that none is copied.
+#![tactic(auto)]
+
 ghost use Rattle.std.specs.Prelude.{◌≡◌};
 ghost use Rattle.tables.specs.Tables.{first_link, second_link, links_to, row_of, count_of, segment_at, blank_tables};
 

@@ -1,4 +1,6 @@
 // The area file that a program is to run: the one that its argument names, or standard input where it has no argument.
+#![tactic(auto)]
+
 ghost use Rattle.io.specs.Counts.{IsPrefixLen};
 
 use console::Input;

@@ -1,4 +1,6 @@
 // Bytes and little-endian numbers of any list of bytes: total readers, and a row put into a buffer.
+#![tactic(auto)]
+
 ghost use Rattle.std.specs.Prelude.{◌≡◌};
 ghost use Rattle.file.specs.Bytes.{byte_at, two_at, four_at, two, four, zeros, put_at};
 

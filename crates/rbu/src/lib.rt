@@ -1,6 +1,8 @@
 // What C or Rust links: the core's functions over a lent record and over lent slices of bytes and of 16-bit numbers. A slice is a
 // pointer and a length; a result beside the returned one goes through a reference. The layouts are in docs/FORMATS.md, the
 // declarations in include/.
+#![tactic(auto)]
+
 ghost use Rattle.std.specs.Prelude.{◌≡◌, length};
 ghost use Rattle.braking.specs.Distance.{distance_at};
 ghost use Rattle.decoding.specs.Decoding.{decoded};

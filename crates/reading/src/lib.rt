@@ -1,4 +1,6 @@
 // What load finds of a file.
+#![tactic(auto)]
+
 use tables::Tables;
 
 // The number and the place of the first rule that is broken, 0 and 0 where none is, and the tables, all zero where one is.

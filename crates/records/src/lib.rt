@@ -1,4 +1,6 @@
 // Rules 4 to 6 of a header and of one segment record.
+#![tactic(auto)]
+
 ghost use Rattle.std.specs.Prelude.{◌≡◌, ◌≤◌, leb};
 ghost use Rattle.tables.specs.Bounds.{bounds};
 ghost use Rattle.tables.specs.Tables.{distance_in};

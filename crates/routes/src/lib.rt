@@ -1,4 +1,6 @@
 // Rule 10 over the route records of an area. Arrays are lent, so that none is copied.
+#![tactic(auto)]
+
 ghost use Rattle.std.specs.Prelude.{◌≡◌, ◌≤◌};
 ghost use Rattle.lists.specs.Words.{every, first_failing};
 ghost use Rattle.tables.specs.Bounds.{most_routes, longest_route};

@@ -1,4 +1,6 @@
 // Rules 6 to 9 over the tables of an area, and rules 4 to 10 together. Arrays are lent to the rules, so that none is copied.
+#![tactic(auto)]
+
 ghost use Rattle.std.specs.Prelude.{◌≡◌, ◌+◌, leb};
 ghost use Rattle.lists.specs.Words.{first_failing};
 ghost use Rattle.tables.specs.Bounds.{most_segments, bounds};

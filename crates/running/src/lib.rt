@@ -1,5 +1,7 @@
 // The calls on a record that a caller keeps between them, told by value: the answer's number, and what is changed of the record.
 // `Started` and `Answered` say what each does, and what holds of a record that was started by load and handed from call to call.
+#![tactic(auto)]
+
 ghost use Rattle.std.specs.Prelude.{◌≡◌};
 ghost use Rattle.answers.specs.Answers.{number_of};
 ghost use Rattle.area.specs.Calls.{reported};

@@ -1,5 +1,7 @@
 // Runs a script of calls: from an area record, and from a file. What the runs come to is what `separation` says of the list of
 // calls that the script spells.
+#![tactic(auto)]
+
 ghost use Rattle.std.specs.Prelude.{◌≡◌, length, get_or, take, drop};
 ghost use Rattle.decoding.specs.Decoding.{decoded};
 ghost use Rattle.answers.specs.Answers.{number_of};

@@ -1,4 +1,6 @@
 // The conditions of a sound record on trains and allocations. Of a record handed in nothing is known but what is tested first.
+#![tactic(auto)]
+
 ghost use Rattle.std.specs.Prelude.{◌≡◌, true, ◌&&◌, ◌≤◌, leb, eqb};
 ghost use Rattle.lists.specs.Words.{if◌then◌else◌, at, each, every, some};
 ghost use Rattle.tables.specs.Bounds.{most_segments};

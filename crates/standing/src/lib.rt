@@ -1,4 +1,6 @@
 // A train's forms, and where it stands. The tables' arrays are lent.
+#![tactic(auto)]
+
 ghost use Rattle.std.specs.Prelude.{◌≡◌, ◌-◌, ◌||◌, leb, ltb, eqb};
 ghost use Rattle.lists.specs.Words.{at, each, every};
 ghost use Rattle.tables.specs.Tables.{segment_at};

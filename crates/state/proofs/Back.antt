@@ -5,7 +5,7 @@ use mathlib.Core.Path.{◌≡◌, refl, ap}
 use mathlib.Core.List.{List, [], ◌∷◌, ◌++◌, append_assoc}
 use native.Mathlib.Omega.{arith}
 use native.Mathlib.Nat.{add-suc, suc-add, zero-add}
-use lib.ListN.{length, drop, length_append}
+use lib.ListN.{length, drop, length-append}
 use lib.Seq.{take_all, get_or-append-add}
 use Rattle.lists.specs.Words.{tabulate}
 use Rattle.file.specs.Bytes.{byte_at, two_at, four_at, put_at}
@@ -56,7 +56,7 @@ unfolding tabulate
 trains_back n p [] rest long = refl
 trains_back n p (x ∷ trains) rest long =
     let first = train_back p x (train_rows trains ++ rest) (n + 1) (omega arith) in
-    let more = trains_back (suc n) (p ++ train_bytes x) trains rest (simp length_append (omega arith)) in
+    let more = trains_back (suc n) (p ++ train_bytes x) trains rest (simp length-append (omega arith)) in
     rw first (ap (λ (r : List Train). x ∷ r) (simp add-suc (simp (append_assoc, suc-add) at more)))
 
 -- bytes that start with a record's state
@@ -72,7 +72,7 @@ module _ (a : Area) (segments : length a.allocations ≡ 62) (numbers : length a
   trains_started : (rest : List ℕ) → tabulate most_trains (train_of (started a rest)) ≡ a.trains
   trains_started rest =
       let head = head_bytes a.due a.allocations in
-      rw numbers at (simp zero-add at (trains_back 0 head a.trains rest (simp (length_append, segments))))
+      rw numbers at (simp zero-add at (trains_back 0 head a.trains rest (simp (length-append, segments))))
 
   -- THE CLAIM: a state written over old bytes that have room for it, and read back beside a file that has the record's tables, is
   -- the record

@@ -3,7 +3,7 @@ use Prim.Native.Nat.{ℕ, ◌+◌, ◌-◌, ◌*◌, ◌≤◌, ◌<◌}
 use mathlib.Core.Path.{◌≡◌, refl, sym, ◌∙◌}
 use mathlib.Core.List.{List, [], ◌∷◌}
 use native.Mathlib.Omega.{arith}
-use lib.ListN.{length, get_or, drop, replicate, length_append, drop_of_length-le}
+use lib.ListN.{length, get_or, drop, replicate, length-append, drop_of_length-le}
 use lib.Seq.{drop-cons, take_all}
 use native.Mathlib.Numerals.{add-one}
 use borrow.Author.Tests.{eq-eqb, ne_eqb}
@@ -70,13 +70,13 @@ rows_long (x ∷ trains) = let e = rows_long trains in omega arith
 module _ (a : Area) (segments : length a.allocations ≡ 62) (numbers : length a.trains ≡ most_trains) where
   pub state_long : length (state_bytes a) ≡ state_size
   unfolding state_bytes
-  state_long = simp (length_append, segments, rows_long, numbers)
+  state_long = simp (length-append, segments, rows_long, numbers)
 
   pub state_put : put_at head_size (train_rows a.trains) (put_at 0 (head_bytes a.due a.allocations) (replicate state_size 0)) ≡ state_bytes a
   unfolding state_bytes
   state_put =
       let head = head_bytes a.due a.allocations in
-      let e : 0 + length head ≡ head_size = simp (length_append, segments) in
+      let e : 0 + length head ≡ head_size = simp (length-append, segments) in
       let zeros : List ℕ = replicate state_size 0 in
       rw e at (put_next 0 head (train_rows a.trains) zeros) ∙ put_over (state_bytes a) zeros state_long
 

@@ -1,4 +1,6 @@
 // The running state of an area as bytes, into a lent buffer and from one. The layout is in docs/FORMATS.md.
+#![tactic(auto)]
+
 ghost use Rattle.std.specs.Prelude.{◌≡◌, ◌+◌};
 ghost use Rattle.lists.specs.Words.{tabulate};
 ghost use Rattle.file.specs.Bytes.{byte_at, put_at};

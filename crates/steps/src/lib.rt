@@ -1,4 +1,6 @@
 // What one train, and the allocation of one segment, becomes at speed, request and position; the tests of a step.
+#![tactic(auto)]
+
 ghost use Rattle.std.specs.Prelude.{◌≡◌, not, ◌∷◌, ◌+◌, ◌-◌, min, max, eqb};
 ghost use Rattle.lists.specs.Words.{if◌then◌else◌, at};
 ghost use Rattle.lists.specs.Tests.{◌⇒◌, first_of};

@@ -1,4 +1,6 @@
 // The report's numbers by way of one 64-bit word in which bit s - 1 is set exactly when segment s is allocated.
+#![tactic(auto)]
+
 ghost use Rattle.std.specs.Prelude.{◌≡◌};
 ghost use Rattle.summary.specs.Summary.{summary_of};
 ghost use Rattle.summary.specs.Word.{bit_of, word_of};

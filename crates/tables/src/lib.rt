@@ -1,4 +1,6 @@
 // The tables of an area by value.
+#![tactic(auto)]
+
 
 // The bounds of documents 01, "The area file", and 02, R-3.
 pub const MOST_SEGMENTS: u8 = 62;

@@ -1,4 +1,6 @@
 // A train of an area by value, and where one stands.
+#![tactic(auto)]
+
 
 // Route and place are counted from 1; route 0 is a train off, which is all zero. Place and position are its front's. Count: the grant
 // steps at which it asked and got nothing since it entered or was last granted a segment, 65,535 at the most. Position and length in

@@ -1,4 +1,6 @@
 // The route view: the part of the caller's file that lists a route's segments.
+#![tactic(auto)]
+
 ghost use Rattle.std.specs.Prelude.{◌≡◌, ◌<◌, ◌+◌};
 ghost use Rattle.file.specs.Bytes.{PartAt};
 ghost use Rattle.view.specs.View.{start_in_file, shown, view_start, view_count};

@@ -1,4 +1,6 @@
 // What a program prints of an answer: its number, its place and its word (docs/FORMATS.md).
+#![tactic(auto)]
+
 use libc::STDOUT_FILENO;
 
 // The word for an answer.

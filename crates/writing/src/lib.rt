@@ -1,4 +1,6 @@
 // The tables of a record written as a file, with what the file is then; and a file that is loaded and written again.
+#![tactic(auto)]
+
 ghost use Rattle.std.specs.Prelude.{◌≡◌};
 ghost use Rattle.writing.specs.Writing.{Written, rewrite_answer, rewritten_to};
 
