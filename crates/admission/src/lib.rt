@@ -10,7 +10,7 @@ ghost use Rattle.trains.specs.EnterLeave.{first_segment, journey_tests, entry_te
 use trains::Train;
 
 // The refusal's number, and the segment that is entered where it is 0: handed on, so that the route is not read again.
-#[derive(Drop)]
+#[derive(Clone, Copy)]
 pub struct Entry {
     pub number: u8,
     pub first: u8,

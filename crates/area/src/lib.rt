@@ -20,7 +20,7 @@ use trains::{Spot, Train};
 // Allocations: a slot for each segment, 0 or the number of the train that it is allocated to. Trains: a slot for each number.
 // The step due: 0 speed, 1 request, 2 grant, 3 position.
 #[repr(C)]
-#[derive(Drop)]
+#[derive(Clone, Copy)]
 pub struct Area {
     pub tables: Tables,
     pub allocations: [u8; 62],
@@ -28,14 +28,14 @@ pub struct Area {
     pub due: u8,
 }
 
-#[derive(Drop)]
+#[derive(Clone, Copy)]
 pub struct Outcome {
     pub answer: Answer,
     pub area: Area,
 }
 
 // What a call hands back but for the tables, which no call changes: its answer's number, and the rest of the record.
-#[derive(Drop)]
+#[derive(Clone, Copy)]
 pub struct Change {
     pub number: u8,
     pub allocations: [u8; 62],
@@ -44,7 +44,7 @@ pub struct Change {
 }
 
 // Allocated segments counted, and the least free segment, 0 if none; zeros where the record is unsound.
-#[derive(Drop)]
+#[derive(Clone, Copy)]
 pub struct Report {
     pub answer: Answer,
     pub allocated: u8,
@@ -52,7 +52,7 @@ pub struct Report {
 }
 
 // Whether the record is sound, and where its trains stand, which speed, request and position read again.
-#[derive(Drop)]
+#[derive(Clone, Copy)]
 pub struct Examined {
     pub ok: bool,
     pub spots: [Spot; 24],

@@ -28,7 +28,7 @@ fn list_train(cycle: u8, area: Area, train: u8) -> bool {
 }
 
 // What a cycle comes to: its last step that was called, 0 speed to 3 position, and the outcome of that.
-#[derive(Drop)]
+#[derive(Clone, Copy)]
 struct Cycle {
     step: u8,
     outcome: Outcome,

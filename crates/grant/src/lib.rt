@@ -22,7 +22,7 @@ fn asked_by(routebytes: &[u8; 960], x: Train) -> u8
 }
 
 // By the trains' numbers: the segment that each asks for, 0 for none, and what it counts.
-#[derive(Drop)]
+#[derive(Clone, Copy)]
 struct Asking {
     segments: [u8; 24],
     counts: [u16; 24],

@@ -11,7 +11,7 @@ ghost use Rattle.kept.specs.Kept.{Started, Answered, changed};
 use area::{Area, Change};
 
 // The number and the place of load's answer, and the record to keep.
-#[derive(Drop)]
+#[derive(Clone, Copy)]
 pub struct ToldStart {
     pub number: u8,
     pub place: u16,
@@ -19,7 +19,7 @@ pub struct ToldStart {
 }
 
 // The number of the answer to a report, and the report's two numbers.
-#[derive(Drop)]
+#[derive(Clone, Copy)]
 pub struct ToldReport {
     pub number: u8,
     pub allocated: u8,

@@ -14,14 +14,14 @@ use answers::Answer;
 use area::{Area, Outcome};
 
 // The record after the calls, and how many were run.
-#[derive(Drop)]
+#[derive(Clone, Copy)]
 pub struct Ran {
     pub area: Area,
     pub calls: usize,
 }
 
 // The answer to the file, and what the calls come to; where the file is refused, the blank record and no call.
-#[derive(Drop)]
+#[derive(Clone, Copy)]
 pub struct FileRan {
     pub answer: Answer,
     pub area: Area,

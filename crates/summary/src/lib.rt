@@ -5,7 +5,7 @@ ghost use Rattle.std.specs.Prelude.{◌≡◌};
 ghost use Rattle.summary.specs.Summary.{summary_of};
 ghost use Rattle.summary.specs.Word.{bit_of, word_of};
 
-#[derive(Drop)]
+#[derive(Clone, Copy)]
 pub struct Summary {
     pub allocated: u8,
     pub free: u8,

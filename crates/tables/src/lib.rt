@@ -1,7 +1,6 @@
 // The tables of an area by value.
 #![tactic(auto)]
 
-
 // The bounds of documents 01, "The area file", and 02, R-3.
 pub const MOST_SEGMENTS: u8 = 62;
 
@@ -16,7 +15,7 @@ pub const LONGEST: u32 = 4000000;
 // N, R, `gmax`, `b` and `d` of document 01; then a slot for each segment, two for its next and two for its previous links,
 // and the route records as the file has them, 32 bytes each: the count and then the segment numbers.
 #[repr(C)]
-#[derive(Drop)]
+#[derive(Clone, Copy)]
 pub struct Tables {
     pub segments: u8,
     pub routes: u8,
@@ -32,7 +31,7 @@ pub struct Tables {
 }
 
 // What the tables keep of one segment record.
-#[derive(Drop)]
+#[derive(Clone, Copy)]
 pub struct Segment {
     pub length: u32,
     pub limit: u16,

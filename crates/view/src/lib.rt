@@ -6,7 +6,7 @@ ghost use Rattle.file.specs.Bytes.{PartAt};
 ghost use Rattle.view.specs.View.{start_in_file, shown, view_start, view_count};
 
 // The place of a route view in its file.
-#[derive(Drop)]
+#[derive(Clone, Copy)]
 pub struct Part {
     pub start: u32,
     pub count: u32,

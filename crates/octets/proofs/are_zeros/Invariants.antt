@@ -1,0 +1,23 @@
+-- The loop stops at the first byte that is not zero, which makes the test false; where it comes to the end, every byte was zero.
+use Prim.Native.Nat.{max, ℕ, ◌+◌, ◌-◌, ◌≤◌}
+use mathlib.Core.Path.{◌≡◌, sym, ◌∙◌}
+use mathlib.Core.Bool.{Bool, true}
+use mathlib.Core.List.{List}
+use native.Mathlib.Omega.{arith}
+use native.Mathlib.Nat.{sub_self}
+use borrow.Author.Rules.{rules}
+use borrow.Author.Tests.{eq-eqb, ne_eqb}
+use lib.Dec.{eqb}
+use Rattle.lists.specs.Words.{every}
+use Rattle.lists.proofs.Loops.{every_none, every_more, every_fails}
+use Rattle.file.specs.Bytes.{byte_at, zeros}
+use Rattle.octets.proofs.are_zeros.Given as goal
+
+abbrev pub zeroAt : List ℕ → ℕ → ℕ → Bool
+zeroAt s first k = eqb (byte_at s (first + k - 1)) 0
+
+abbrev pub invariant-loop-i : goal.invariant-loop-i
+invariant-loop-i l = (l.first ≤ l.i) × (l.i ≤ max l.first (l.last + 1)) × (every (l.i - l.first) (zeroAt l.s l.first) ≡ true)
+
+abbrev pub decreases-loop-i : goal.decreases-loop-i
+decreases-loop-i l = l.end - l.i

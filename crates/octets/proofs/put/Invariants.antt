@@ -1,0 +1,13 @@
+-- A copy byte by byte, which ends with the row or with the buffer.
+use Prim.Native.Nat.{◌-◌}
+use native.Mathlib.Omega.{arith}
+use lib.ListN.{length}
+use borrow.Author.Rules.{rules}
+use Rattle.file.proofs.Rows.{Putting, put_begin, put_more, put_whole, put_full}
+use Rattle.octets.proofs.put.Given as goal
+
+abbrev pub invariant-loop-j : goal.invariant-loop-j
+invariant-loop-j l = Putting l.at l.row l.initial.buffer l.j l.buffer
+
+abbrev pub decreases-loop-j : goal.decreases-loop-j
+decreases-loop-j l = length l.row - l.j
