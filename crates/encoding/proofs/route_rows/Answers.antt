@@ -1,0 +1,15 @@
+-- The records of a block are 480 bytes of the 960.
+use Prim.Native.Nat.{ℕ, ◌+◌, ◌-◌, ◌*◌}
+use mathlib.Core.Path.{◌≡◌, ap, ◌∙◌}
+use native.Mathlib.Omega.{arith}
+use lib.ListN.{take, drop, length-take, length-drop}
+use borrow.Author.Rules.{rules}
+use Rattle.encoding.proofs.Rows.{routes_part}
+use Rattle.encoding.proofs.route_rows.Goals as goal
+
+pub returns : goal.returns
+returns c = 
+    let e : 32 * c.args.before + 480 - 32 * c.args.before ≡ 480 = omega arith in (
+      ap (λ (n : ℕ). take n (drop (32 * c.args.before) c.args.routebytes.now)) e ∙ routes_part c.args.routebytes.now c.args.before (omega arith),
+      simp (length-take, length-drop) (omega arith),
+    )

@@ -1,0 +1,5 @@
+use borrow.Author.Rules.{rules}
+use Rattle.records.proofs.margin_ok.Goals as goal
+
+pub returns : goal.returns
+returns c = simp c.braking_distance.ensures

@@ -1,0 +1,49 @@
+use Prim.Native.Nat.{ℕ, ◌+◌, ◌-◌, ◌≤◌}
+use mathlib.Core.Path.{◌≡◌, sym}
+use mathlib.Core.Logic.{inl}
+use mathlib.Core.Bool.{Bool, true, ◌||◌}
+use mathlib.Core.List.{List}
+use native.Mathlib.Omega.{arith}
+use lib.Dec.{ltb, eqb}
+use borrow.Author.Rules.{rules}
+use borrow.Author.Tests.{lt-ltb, le-ltb}
+use Rattle.lists.specs.Words.{at, every}
+use Rattle.lists.proofs.Cases.{cases, either_yes, test_fails, test_holds}
+use Rattle.lists.proofs.Loops.{every_more, every_fails, every_all, every_at}
+use Rattle.tables.specs.Tables.{segment_at}
+use Rattle.standing.proofs.all_held.Invariants.{ok}
+use Rattle.standing.proofs.all_held.Goals as goal
+
+-- before the rear's place nothing is asked
+before : (routebytes allocations : List ℕ) (r rear t p : ℕ) → p ≤ rear - 1 → every p (ok routebytes allocations r rear t) ≡ true
+before routebytes allocations r rear t p h =
+    every_all _ p (λ k low high. either_yes (ltb k rear) _ (inl (lt-ltb k rear (omega arith))))
+
+-- CHECK
+here :
+    (c : After-is_held invariant-loop decreases-loop)
+    → let l = c.before.before.before.before in
+    let a = l.before.before.args in
+    c.is_held_lem.result ≡ ok a.routebytes.now a.allocations.now a.r a.rear a.t (l.loop.p + 1)
+here c =
+    let l = c.before.before.before.before in
+    let a = l.before.before.args in
+    rw (le-ltb (l.loop.p + 1) a.rear l.loop.invariant.0) (rw c.before.segment-at.ensures at c.is_held_lem.ensures)
+
+pub loop-p-init : goal.loop-p-init
+loop-p-init c = 
+    cases c.if-rear-eq0.branch
+    (λ w. rw w.1 (omega (arith, w.0.taken), before _ _ _ _ _ 0 (omega arith)))
+    (λ w. rw w.1 (omega (arith, w.0.left), before _ _ _ _ _ _ (omega arith)))
+
+pub returns-then-not-is_held : goal.returns-then-not-is_held
+returns-then-not-is_held c = 
+    sym (every_fails _ _ (c.loop-p.p + 1) (omega arith) (omega arith) (test_fails (here c) c.if-not-is_held.true))
+
+pub loop-p-preserved : goal.loop-p-preserved
+loop-p-preserved c = 
+    (omega (arith, c.loop-p.invariant.0), every_more _ _ c.loop-p.invariant.1 (test_holds (here c) c.if-not-is_held.false))
+
+pub returns : goal.returns
+returns c = 
+    sym (every_all _ _ (λ k low high. every_at _ c.loop-p.p c.loop-p.invariant.1 k low (omega arith)))

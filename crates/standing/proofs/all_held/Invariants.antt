@@ -1,0 +1,24 @@
+-- The walk begins before the rear's place, up to where nothing is asked; the first place that is not allocated to the train ends it.
+use Prim.Native.Nat.{ℕ, ◌+◌, ◌-◌, ◌≤◌}
+use mathlib.Core.Path.{◌≡◌, sym}
+use mathlib.Core.Logic.{inl}
+use mathlib.Core.Bool.{Bool, true, ◌||◌}
+use mathlib.Core.List.{List}
+use native.Mathlib.Omega.{arith}
+use lib.Dec.{ltb, eqb}
+use borrow.Author.Rules.{rules}
+use borrow.Author.Tests.{lt-ltb, le-ltb}
+use Rattle.lists.specs.Words.{at, every}
+use Rattle.lists.proofs.Cases.{cases, either_yes, test_fails, test_holds}
+use Rattle.lists.proofs.Loops.{every_more, every_fails, every_all, every_at}
+use Rattle.tables.specs.Tables.{segment_at}
+use Rattle.standing.proofs.all_held.Given as goal
+
+abbrev pub ok : (routebytes allocations : List ℕ) (r rear t : ℕ) → ℕ → Bool
+ok routebytes allocations r rear t p = ltb p rear || eqb (at allocations (segment_at routebytes r p)) t
+
+abbrev pub invariant-loop-p : goal.invariant-loop-p
+invariant-loop-p l = (l.rear ≤ l.p + 1) × (every l.p (ok l.routebytes l.allocations l.r l.rear l.t) ≡ true)
+
+abbrev pub decreases-loop-p : goal.decreases-loop-p
+decreases-loop-p l = l.place - l.p

@@ -1,0 +1,5 @@
+use borrow.Author.Rules.{rules}
+use Rattle.standing.proofs.with_asking.Goals as goal
+
+pub returns : goal.returns
+returns c = simp c.asking.ensures
