@@ -11,6 +11,8 @@ use Rattle.lists.specs.Words.{at, every}
 use Rattle.lists.proofs.Cases.{cases, either_yes, test_fails, test_holds}
 use Rattle.lists.proofs.Loops.{every_more, every_fails, every_all, every_at}
 use Rattle.tables.specs.Tables.{segment_at}
+use Rattle.std.proofs.Common.{ap}
+use Rattle.std.specs.Prelude.{not}
 use Rattle.standing.proofs.all_held.Invariants.{ok}
 use Rattle.standing.proofs.all_held.Goals as goal
 
@@ -31,19 +33,19 @@ here c =
     rw (le-ltb (l.loop.p + 1) a.rear l.loop.invariant.0) (rw c.before.segment-at.ensures at c.is_held_lem.ensures)
 
 pub loop-p-init : goal.loop-p-init
-loop-p-init c = 
+loop-p-init c =
     cases c.if-rear-eq0.branch
     (λ w. rw w.1 (omega (arith, w.0.taken), before _ _ _ _ _ 0 (omega arith)))
     (λ w. rw w.1 (omega (arith, w.0.left), before _ _ _ _ _ _ (omega arith)))
 
 pub returns-then-not-is_held : goal.returns-then-not-is_held
-returns-then-not-is_held c = 
-    sym (every_fails _ _ (c.loop-p.p + 1) (omega arith) (omega arith) (test_fails (here c) c.if-not-is_held.true))
+returns-then-not-is_held c =
+    sym (every_fails _ _ (c.loop-p.p + 1) (omega arith) (omega arith) (test_fails (here c) (ap not c.if-not-is_held.true)))
 
 pub loop-p-preserved : goal.loop-p-preserved
-loop-p-preserved c = 
-    (omega (arith, c.loop-p.invariant.0), every_more _ _ c.loop-p.invariant.1 (test_holds (here c) c.if-not-is_held.false))
+loop-p-preserved c =
+    (omega (arith, c.loop-p.invariant.0), every_more _ _ c.loop-p.invariant.1 (test_holds (here c) (ap not c.if-not-is_held.false)))
 
 pub returns : goal.returns
-returns c = 
+returns c =
     sym (every_all _ _ (λ k low high. every_at _ c.loop-p.p c.loop-p.invariant.1 k low (omega arith)))

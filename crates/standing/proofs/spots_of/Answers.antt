@@ -19,7 +19,7 @@ pub loop-i-init : goal.loop-i-init
 loop-i-init c = rw c.no_spot-new.ensures (make_begin (search long_of) (length-replicate 24 no_spot))
 
 pub loop-i-preserved : goal.loop-i-preserved
-loop-i-preserved c = 
+loop-i-preserved c =
     cases c.if-x-ne0.branch
     (λ w. rw w.2 (make_more c.loop-i.invariant off c.loop-i-test.true (rw (train_on w.0.taken) w.1.ensures)))
     (λ w. rw w.1 (make_keep c.loop-i.invariant off no_spot c.loop-i-test.true (rw (train_off w.0.left) (blank-at c.loop-i.i))))
