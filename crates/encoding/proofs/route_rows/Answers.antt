@@ -8,7 +8,7 @@ use Rattle.encoding.proofs.Rows.{routes_part}
 use Rattle.encoding.proofs.route_rows.Goals as goal
 
 pub returns : goal.returns
-returns c = 
+returns c =
     let e : 32 * c.args.before + 480 - 32 * c.args.before ≡ 480 = omega arith in (
       ap (λ (n : ℕ). take n (drop (32 * c.args.before) c.args.routebytes.now)) e ∙ routes_part c.args.routebytes.now c.args.before (omega arith),
       simp (length-take, length-drop) (omega arith),

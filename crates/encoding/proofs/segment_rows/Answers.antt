@@ -18,7 +18,7 @@ unfolding rows
 loop-i-init c = (omega arith, refl, sym (put_nothing 0 _))
 
 pub loop-i-preserved : goal.loop-i-preserved
-loop-i-preserved c = 
+loop-i-preserved c =
     let number : c.args.before + c.loop-i.i + 1 ≡ c.args.before + suc c.loop-i.i = omega arith in
     let row = c.segment_bytes-row.ensures ∙ ap segment_record c.row_of-segment.ensures in (
       omega arith,
@@ -27,7 +27,7 @@ loop-i-preserved c =
     )
 
 pub returns : goal.returns
-returns c = 
+returns c =
     let e : c.loop-i.i ≡ 31 = omega arith in
     let segment = row_of c.args.lengths.now c.args.limits.now c.args.next.now c.args.previous.now c.args.flags.now in
     rw e at c.loop-i.invariant.2 ∙ put_over _ _ (segments_long segment c.args.before)

@@ -5,7 +5,7 @@ use Rattle.encoding.proofs.Whole.{encoded_put}
 use Rattle.encoding.proofs.write_tables.Goals as goal
 
 pub returns : goal.returns
-returns c = 
+returns c =
     c.put_block-5.ensures
     ∙ rw (
       c.route_rows-2.ensures.0,

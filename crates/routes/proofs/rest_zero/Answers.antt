@@ -15,7 +15,7 @@ pub loop-p-init : goal.loop-p-init
 loop-p-init c = (omega arith, rw c.count_of-p.ensures (rest_upto _ _))
 
 pub returns-then-route_byte-ne0 : goal.returns-then-route_byte-ne0
-returns-then-route_byte-ne0 c = 
+returns-then-route_byte-ne0 c =
     let bad = rest_other c.args.routebytes.now c.args.r (c.loop-p.p + 1) (omega arith) (λ e. c.if-route_byte-ne0.true (c.route_byte.ensures ∙ e)) in
     sym (every_fails _ longest_route (c.loop-p.p + 1) (omega arith) (omega arith) bad)
 

@@ -9,6 +9,6 @@ use Rattle.routes.proofs.route_byte.Goals as goal
 
 pub returns : goal.returns
 unfolding segment_at
-returns c = 
+returns c =
     let e : 32 * c.args.r - 31 + c.args.p - 1 ≡ 32 * c.args.r - 32 + c.args.p = omega arith in
     sym (rw e at (nth_in 0 c.args.routebytes.now (32 * c.args.r - 31 + c.args.p) (omega arith)))

@@ -11,7 +11,7 @@ pub loop-p-init : goal.loop-p-init
 loop-p-init c = (omega arith, sym (every_none _))
 
 pub loop-p-preserved : goal.loop-p-preserved
-loop-p-preserved c = 
+loop-p-preserved c =
     let e : c.loop-p.p + 1 - 1 ≡ c.loop-p.p = omega arith in
     (omega arith, rw (every_next, e, c.route_byte.ensures, c.loop-p.invariant.1))
 

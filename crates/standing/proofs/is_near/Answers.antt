@@ -6,5 +6,5 @@ use borrow.Author.Rules.{rules}
 use Rattle.standing.proofs.is_near.Goals as goal
 
 pub returns-then-length-margin : goal.returns-then-length-margin
-returns-then-length-margin c = 
+returns-then-length-margin c =
     sym (le-leb (c.args.length - c.args.margin) c.args.position (omega arith))

@@ -21,17 +21,17 @@ pub loop-p-smaller : goal.loop-p-smaller
 loop-p-smaller c = let f = simp facts at c.loop-p-test.true in omega arith
 
 pub loop-p-preserved : goal.loop-p-preserved
-loop-p-preserved c = 
+loop-p-preserved c =
     let f = simp facts at c.loop-p-test.true in
     rw (c.less-back-in-loop-p.ensures, c.length_at.ensures)
     (sym (rear_more _ _ _ c.loop-p.p c.loop-p.back (omega arith) (λ z. omega arith)) ∙ c.loop-p.invariant)
 
 pub returns-then-p-eq0 : goal.returns-then-p-eq0
-returns-then-p-eq0 c = 
+returns-then-p-eq0 c =
     sym (rear_first _ _ _ c.loop-p.p c.loop-p.back (omega arith)) ∙ c.loop-p.invariant
 
 pub returns-else-p-eq0 : goal.returns-else-p-eq0
-returns-else-p-eq0 c = 
+returns-else-p-eq0 c =
     let here : rear_from _ _ _ c.loop-p.p c.loop-p.back ≡ c.loop-p.p =
     cases (lt_or_le 1 c.loop-p.p)
     (λ more.

@@ -5,10 +5,10 @@ use Rattle.standing.proofs.spot_of.Goals as goal
 
 pub returns : goal.returns
 unfolding holds_all_in
-returns c = 
+returns c =
     simp (
       c.is_near.ensures,
-      c.UNKNOWNis_held_lem.ensures,
+      c.is_held.ensures,
       c.entry_u16-2.ensures,
       c.all_held.ensures,
       c.entry_u16.ensures,
@@ -16,5 +16,5 @@ returns c =
       c.rear_of-rear.ensures,
       c.entry_u32-length.ensures,
       c.next_of-next.ensures,
-      c.UNKNOWNown_of_lem.ensures,
+      c.own_of-own.ensures,
     )

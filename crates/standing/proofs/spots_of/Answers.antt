@@ -11,6 +11,7 @@ use Rattle.trains.specs.Train.{off}
 use Rattle.standing.specs.Spots.{no_spot, stands_in}
 use Rattle.trains.proofs.Laws.{train_off, train_on}
 use Rattle.standing.proofs.spots_of.Goals as goal
+use Rattle.standing.proofs.spots_of.Goals.{then-x-ne0, else-x-ne0}
 
 blank-at : (i : ℕ) → get_or (replicate 24 no_spot) i no_spot ≡ no_spot
 blank-at i = sym (nth_index no_spot (replicate 24 no_spot) i) ∙ nth_replicate no_spot 24 (i + 1)
@@ -19,10 +20,11 @@ pub loop-i-init : goal.loop-i-init
 loop-i-init c = rw c.no_spot-new.ensures (make_begin (search long_of) (length-replicate 24 no_spot))
 
 pub loop-i-preserved : goal.loop-i-preserved
-loop-i-preserved c = 
-    cases c.if-x-ne0.branch
-    (λ w. rw w.2 (make_more c.loop-i.invariant off c.loop-i-test.true (rw (train_on w.0.taken) w.1.ensures)))
-    (λ w. rw w.1 (make_keep c.loop-i.invariant off no_spot c.loop-i-test.true (rw (train_off w.0.left) (blank-at c.loop-i.i))))
+loop-i-preserved c =
+    elim c.if-x-ne0.branch [
+      | then-x-ne0 w ↦ rw w.new-is (make_more c.loop-i.invariant off c.loop-i-test.true (rw (train_on w.if-x-ne0.true) w.spot_of.ensures))
+      | else-x-ne0 w ↦ rw w.new-is (make_keep c.loop-i.invariant off no_spot c.loop-i-test.true (rw (train_off w.if-x-ne0.false) (blank-at c.loop-i.i)))
+    ]
 
 pub returns : goal.returns
 returns c = make_over c.loop-i.invariant c.loop-i-test.false

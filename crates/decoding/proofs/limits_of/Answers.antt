@@ -1,0 +1,18 @@
+use Prim.Native.Nat.{◌-◌}
+use native.Mathlib.Omega.{arith}
+use borrow.Author.Rules.{rules}
+use Rattle.decoding.specs.Decoding.{limit_in}
+use Rattle.lists.proofs.Loops.{Tabled, table_begin, table_more, table_over}
+use Rattle.decoding.proofs.limits_of.Goals as goal
+
+pub loop-i-init : goal.loop-i-init
+loop-i-init c = table_begin
+
+pub loop-i-preserved : goal.loop-i-preserved
+unfolding limit_in
+loop-i-preserved c =
+    table_more c.loop-i.invariant c.loop-i-test.true
+    (simp (c.two_at.ensures, c.segment_block.ensures, c.segment_start.ensures))
+
+pub returns : goal.returns
+returns c = table_over c.loop-i.invariant c.loop-i-test.false

@@ -1,0 +1,7 @@
+use Rattle.tables.specs.Rules.{matched}
+use borrow.Author.Rules.{rules}
+use Rattle.rules.proofs.is_matched.Goals as goal
+
+pub returns : goal.returns
+unfolding matched
+returns c = simp c.links_to.ensures
