@@ -18,12 +18,8 @@ is_sound_lem c = (ap not c.if-not-ok.false)
 numbered : (c : Else-train) → no_train c.args.train ≡ false
 numbered c = sym (outside most_trains c.args.train) ∙ c.if-train.false
 
--- CHECK
-abbrev known : Else-x-gt0 → Else-train
-known c = c.before.before.before
-
-is-off : (c : Else-x-gt0) → let a = (start (known c)).args in is_on (train_at a.trains a.train) ≡ false
-is-off c = rw c.train_at-x.ensures at (le-ltb _ _ c.if-x-gt0.false)
+is_off_lem : (c : Else-x-gt0) → is_on (train_at c.args.trains c.args.train) ≡ false
+is_off_lem c = rw c.train_at-x.ensures at (le-ltb _ _ c.if-x-gt0.false)
 
 pub returns-then-not-ok : goal.returns-then-not-ok
 returns-then-not-ok c T p q u v = (rw (ap not c.if-not-ok.true), λ z. absurd (omega arith))
@@ -40,6 +36,6 @@ returns-then-x-gt0 c T p q u v =
 
 pub returns : goal.returns
 returns c T p q u v =
-    let e = known c in
+    let e = goal.at.returns c in
     let rest = c.journey_refusal.ensures T p q u v in
-    (rw (is_sound_lem e.before, numbered e, is-off (goal.at.returns c).Else-x-gt0) rest.0, rest.1)
+    (rw (is_sound_lem e.Else-not-ok, numbered e.Else-train, is_off_lem e.Else-x-gt0) rest.0, rest.1)

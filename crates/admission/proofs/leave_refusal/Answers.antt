@@ -1,5 +1,4 @@
 -- Each test that the code has passed is false in the list, and the one that it answers with is true.
--- the train, once it is read
 use mathlib.Core.Path.{◌≡◌, sym, ◌∙◌}
 use mathlib.Core.Bool.{true, false, not, ◌&&◌}
 use native.Mathlib.Omega.{arith}
@@ -22,18 +21,14 @@ is_sound_lem c = (ap not c.if-not-ok.false)
 numbered : (c : Else-train) → no_train c.args.train ≡ false
 numbered c = sym (outside most_trains c.args.train) ∙ c.if-train.false
 
--- CHECK
-abbrev train : Else-train → Train
-train c = train_at c.before.before.args.trains c.before.before.args.train
+is_on_lem : (c : Else-x-eq0) → is_on (train_at c.args.trains c.args.train) ≡ true
+is_on_lem c = let on : 0 < c.train_at-x.result.route = omega (arith, c.if-x-eq0.false) in rw c.train_at-x.ensures at (lt-ltb _ _ on)
 
-is-on : (c : Else-x-eq0) → is_on (train c) ≡ true
-is-on c = let on : 0 < c.train_at-x.result.route = omega (arith, c.if-x-eq0.false) in rw c.train_at-x.ensures at (lt-ltb _ _ on)
-
-exit-found :
+exit_found :
     (c : After-at_exit) (T : Tables) →
-    T.routebytes ≡ c.args.routebytes.now → T.flags ≡ c.args.flags.now
-    → c.at_exit.result ≡ (is_last T (train c) && is_exit T (own_of T (train c)))
-exit-found c T p q = rw (p, q, sym c.train_at-x.ensures) c.at_exit.ensures
+    let x = train_at c.args.trains c.args.train in
+    T.routebytes ≡ c.args.routebytes.now → T.flags ≡ c.args.flags.now → c.at_exit.result ≡ (is_last T x && is_exit T (own_of T x))
+exit_found c T p q = rw (p, q, sym c.train_at-x.ensures) c.at_exit.ensures
 
 pub returns-then-not-ok : goal.returns-then-not-ok
 returns-then-not-ok c T p q = rw (ap not c.if-not-ok.true)
@@ -50,10 +45,10 @@ returns-then-x-eq0 c T p q =
 
 pub returns-then-not-at_exit : goal.returns-then-not-at_exit
 returns-then-not-at_exit c T p q =
-    let e = known c in
-    rw (is_sound_lem e.before, numbered e, is-on (goal.at.returns-then-not-at_exit c).Else-x-eq0, test_fails (exit-found (goal.at.returns-then-not-at_exit c).After-at_exit T p q) (ap not c.if-not-at_exit.true))
+    let e = goal.at.returns-then-not-at_exit c in
+    rw (is_sound_lem e.Else-not-ok, numbered e.Else-train, is_on_lem e.Else-x-eq0, test_fails (exit_found e.After-at_exit T p q) (ap not c.if-not-at_exit.true))
 
 pub returns : goal.returns
 returns c T p q =
-    let e = known c in
-    rw (is_sound_lem e.before, numbered e, is-on (goal.at.returns c).Else-x-eq0, test_holds (exit-found (goal.at.returns c).After-at_exit T p q) (ap not c.if-not-at_exit.false))
+    let e = goal.at.returns c in
+    rw (is_sound_lem e.Else-not-ok, numbered e.Else-train, is_on_lem e.Else-x-eq0, test_holds (exit_found e.After-at_exit T p q) (ap not c.if-not-at_exit.false))

@@ -29,32 +29,23 @@ use Rattle.area.specs.Calls.{step_tests, after_position, position_call}
 use Rattle.area.specs.Examined.{Parts}
 use Rattle.area.proofs.Soundness.{sound_iff}
 use Rattle.area.proofs.Laws.{passed_by, refused_by, finished_by, change_by}
-use Rattle.area.proofs.position_found.Statement.{statement}
-use Rattle.area.proofs.position_found.Tie as tie
+use Rattle.area.proofs.position_found.Goals as goal
+use Rattle.area.proofs.position_found.Goals.{After-step_refusal-number, Else-number-ne0, Start}
 
+-- CHECK
 -- the parts that the call is handed are those of the record a
-abbrev Given : tie.Start → Area → Type 0
+abbrev Given : Start → Area → Type 0
 Given s a = let i = s.args in Parts a i.found i.allocations i.trains i.due
 
-refusal : (c : tie.After-step-refusal) (a : Area) → Given c.before a → c.step-refusal.result ≡ (first_of (step_tests position_due a)).number
-refusal c a h = rw (ap (λ (x : Examined). x.ok) h.found, h.due) at c.step-refusal.ensures
-
-returns : tie.Need-returns
-unfolding position_call
-returns c a h e f =
-    rw (h.allocations, h.trains, h.due)
-    (change_by _ a (refused_by (step_tests position_due a) (refusal c.before a h) (after_position a) a refl c.if1.true))
+refusal : (c : After-step_refusal-number) (a : Area) → Given c a → c.step_refusal-number.result ≡ (first_of (step_tests position_due a)).number
+refusal c a h = rw (ap (λ (x : Examined). x.ok) h.found, h.due) at c.step_refusal-number.ensures
 
 -- the record was found sound, where test 11 is passed
-was-sound : (c : tie.Else1) → c.before.before.args.found.ok ≡ true
+was-sound : (c : Else-number-ne0) → c.args.found.ok ≡ true
 was-sound c =
-    let i = c.before.before.args in
-    not-false _ (passed_by (not i.found.ok ⇒ 11 ∷ not (eqb i.due position_due) ⇒ 12 ∷ []) c.before.step-refusal.ensures refl c.if1.false 11)
+    not-false _ (passed_by (not c.args.found.ok ⇒ 11 ∷ not (eqb c.args.due position_due) ⇒ 12 ∷ []) c.step_refusal-number.ensures refl c.if-number-ne0.false 11)
 
-moved-all-requires : tie.Need-moved-all-requires
-moved-all-requires c κs = c.before.before.before.requires (was-sound c.before)
-
-long : (s : tie.Start) → length s.args.trains ≡ most_trains
+long : (s : Start) → length s.args.trains ≡ most_trains
 long s = search long_of
 
 -- what the step makes of the trains and of the allocations of a record that was found sound with position due
@@ -73,23 +64,26 @@ stepped a spots new left f long due stands moves frees =
           (λ t low high on. sound_movable T K a.allocations t (train_at a.trains t) on (rw due at (f.ons t low high on))) f.offs,
     )
 
-returns-2 : tie.Need-returns-2
-unfolding position_call after_position
-returns-2 c a h e f =
-    let m = c.before in
-    let p = m.before.before in
-    let s = p.before.before in
-    let number = refusal p.before a h in
-    let ok : sound a ≡ true = not-false _ (passed_by (step_tests position_due a) number refl p.if1.false 11) in
-    let due : a.due ≡ position_due = eqb-true _ _ (not-false _ (passed_by (step_tests position_due a) number refl p.if1.false 12)) in
-    let many : length a.trains ≡ most_trains = sym (ap length h.trains) ∙ long s in
-    let both =
-    stepped a s.args.found.spots m.moved_all.result c.released-all.result ((sound_iff a many).0 ok) many due
-    (ap (λ (x : Examined). x.spots) h.found)
-    (rw h.trains at m.moved_all.ensures)
-    (rw (h.allocations, e, f) at c.released-all.ensures) in
-    change_by 0 (record { tables = a.tables; allocations = c.released-all.result; trains = m.moved_all.result; due = 0 })
-    (finished_by (step_tests position_due a) number (after_position a) a refl p.if1.false (simp (both.0, both.1)))
+pub returns-then-number-ne0 : goal.returns-then-number-ne0
+unfolding position_call
+returns-then-number-ne0 c a h e f = 
+    rw (h.allocations, h.trains, h.due)
+    (change_by _ a (refused_by (step_tests position_due a) (refusal (goal.at.returns-then-number-ne0 c).After-step_refusal-number a h) (after_position a) a refl c.if-number-ne0.true))
 
-pub position-found-spec : {M : Type 1} → statement M
-position-found-spec = tie.close (tie.spec (λ c κs. search rules) returns moved-all-requires (λ c κs. search rules) returns-2)
+pub moved_all-trains_after-requires : goal.moved_all-trains_after-requires
+moved_all-trains_after-requires c = c.requires (was-sound (goal.at.moved_all-trains_after-requires c).Else-number-ne0)
+
+pub returns : goal.returns
+unfolding position_call after_position
+returns c a h e f = 
+    let number = refusal (goal.at.returns c).After-step_refusal-number a h in
+    let ok : sound a ≡ true = not-false _ (passed_by (step_tests position_due a) number refl c.if-number-ne0.false 11) in
+    let due : a.due ≡ position_due = eqb-true _ _ (not-false _ (passed_by (step_tests position_due a) number refl c.if-number-ne0.false 12)) in
+    let many : length a.trains ≡ most_trains = sym (ap length h.trains) ∙ long (goal.at.returns c).Start in
+    let both =
+    stepped a c.args.found.spots c.moved_all-trains_after.result c.released_all-allocations_after.result ((sound_iff a many).0 ok) many due
+    (ap (λ (x : Examined). x.spots) h.found)
+    (rw h.trains at c.moved_all-trains_after.ensures)
+    (rw (h.allocations, e, f) at c.released_all-allocations_after.ensures) in
+    change_by 0 (record { tables = a.tables; allocations = c.released_all-allocations_after.result; trains = c.moved_all-trains_after.result; due = 0 })
+    (finished_by (step_tests position_due a) number (after_position a) a refl c.if-number-ne0.false (simp (both.0, both.1)))
