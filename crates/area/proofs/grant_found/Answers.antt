@@ -11,23 +11,18 @@ use Rattle.area.proofs.Laws.{refused_by, finished_by, change_by}
 use Rattle.area.proofs.grant_found.Goals as goal
 use Rattle.area.proofs.grant_found.Goals.{After-step_refusal-number}
 
--- CHECK
--- the parts that the call is handed are those of the record a
-abbrev Given : Start → Area → Type 0
-Given s a = let i = s.args in Parts a i.found i.t3 i.trains i.due
-
-refusal : (c : After-step_refusal-number) (a : Area) → Given c a → c.step_refusal-number.result ≡ (first_of (step_tests grant_due a)).number
+refusal : (c : After-step_refusal-number) (a : Area) → Parts a c.args.found c.args.allocations c.args.trains c.args.due → c.step_refusal-number.result ≡ (first_of (step_tests grant_due a)).number
 refusal c a h = rw (ap (λ (x : Examined). x.ok) h.found, h.due) at c.step_refusal-number.ensures
 
 pub returns-then-number-ne0 : goal.returns-then-number-ne0
 unfolding grant_call
-returns-then-number-ne0 c a h e = 
+returns-then-number-ne0 c a h e =
     rw (h.allocations, h.trains, h.due)
     (change_by _ a (refused_by (step_tests grant_due a) (refusal (goal.at.returns-then-number-ne0 c).After-step_refusal-number a h) (after_grant a) a refl c.if-number-ne0.true))
 
 pub returns : goal.returns
 unfolding grant_call after_grant
-returns c a h e = 
+returns c a h e =
     let allocations = rw (h.trains, h.allocations) at (c.granted_all-allocations_after.ensures a.tables (sym e)) in
     let trains = rw (allocations, h.trains, h.allocations) at (c.calmed_all-trains_after.ensures a.tables (sym e)) in
     change_by 0 (record { tables = a.tables; allocations = c.granted_all-allocations_after.result; trains = c.calmed_all-trains_after.result; due = 3 })

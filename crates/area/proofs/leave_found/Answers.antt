@@ -1,7 +1,8 @@
 -- The number of the first test that holds decides; where none does, the contracts of the freed segments and of the train off make the rest.
+use Prim.Native.Nat.{ℕ}
 use mathlib.Core.Path.{◌≡◌, refl, sym, ap}
 use mathlib.Core.Bool.{not}
-use mathlib.Core.List.{[], ◌∷◌}
+use mathlib.Core.List.{List, [], ◌∷◌}
 use native.Mathlib.Omega.{arith}
 use borrow.Author.Rules.{rules}
 use Rattle.lists.specs.Tests.{◌⇒◌, first_of}
@@ -17,20 +18,14 @@ use Rattle.area.proofs.Laws.{passed_by, refused_by, finished_by, change_by}
 use Rattle.area.proofs.leave_found.Goals as goal
 use Rattle.area.proofs.leave_found.Goals.{After-leave_refusal-number}
 
--- CHECK
--- the parts that the call is handed are those of the record a
-abbrev Given : Start → Area → Type 0
-Given s a = let i = s.args in Parts a i.found i.allocations i.trains i.due
-
 refusal :
-    (c : After-leave_refusal-number) (a : Area) → Given c a → c.args.routebytes.now ≡ a.tables.routebytes
+    (c : After-leave_refusal-number) (a : Area) → Parts a c.args.found c.args.allocations c.args.trains c.args.due → c.args.routebytes.now ≡ a.tables.routebytes
     → c.args.flags.now ≡ a.tables.flags → c.leave_refusal-number.result ≡ (first_of (leave_tests a c.args.train)).number
 refusal c a h e f = rw (ap (λ (x : Examined). x.ok) h.found, h.trains) at (c.leave_refusal-number.ensures a.tables (sym e) (sym f))
 
--- CHECK
 -- tables that have what is lent: test 13 does not look at the rest
-abbrev lent : Start → Tables
-lent s =
+abbrev lent : (flags routebytes : List ℕ) → Tables
+lent flags routebytes =
     record {
       segments = 0;
       routes = 0;
@@ -41,25 +36,25 @@ lent s =
       limits = [];
       next = [];
       previous = [];
-      flags = s.args.flags.now;
-      routebytes = s.args.routebytes.now;
+      flags = flags;
+      routebytes = routebytes;
     }
 
 pub returns-then-number-ne0 : goal.returns-then-number-ne0
 unfolding leave_call
-returns-then-number-ne0 c a h e f = 
+returns-then-number-ne0 c a h e f =
     rw (h.allocations, h.trains, h.due)
     (change_by _ a (refused_by (leave_tests a c.args.train) (refusal (goal.at.returns-then-number-ne0 c).After-leave_refusal-number a h e f) (after_leave a c.args.train) a refl c.if-number-ne0.true))
 
 pub overflow_cast-t : goal.overflow_cast-t
-overflow_cast-t c = 
-    let first = c.leave_refusal-number.ensures (lent c) refl refl in
-    let h = within most_trains c.args.train (passed_by (not c.args.found.ok ⇒ 11 ∷ exit_tests (lent c) c.args.trains c.args.train) first refl c.if-number-ne0.false 13) in
+overflow_cast-t c =
+    let first = c.leave_refusal-number.ensures (lent c.args.flags.now c.args.routebytes.now) refl refl in
+    let h = within most_trains c.args.train (passed_by (not c.args.found.ok ⇒ 11 ∷ exit_tests (lent c.args.flags.now c.args.routebytes.now) c.args.trains c.args.train) first refl c.if-number-ne0.false 13) in
     omega arith
 
 pub returns : goal.returns
 unfolding leave_call after_leave
-returns c a h e f = 
+returns c a h e f =
     let trains = rw (h.trains, c.train_off.ensures) at c.with_train-trains_after.ensures in
     let allocations = rw h.allocations at c.freed_all-allocations_after.ensures in
     rw h.due

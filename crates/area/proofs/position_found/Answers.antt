@@ -30,23 +30,15 @@ use Rattle.area.specs.Examined.{Parts}
 use Rattle.area.proofs.Soundness.{sound_iff}
 use Rattle.area.proofs.Laws.{passed_by, refused_by, finished_by, change_by}
 use Rattle.area.proofs.position_found.Goals as goal
-use Rattle.area.proofs.position_found.Goals.{After-step_refusal-number, Else-number-ne0, Start}
+use Rattle.area.proofs.position_found.Goals.{After-step_refusal-number, Else-number-ne0}
 
--- CHECK
--- the parts that the call is handed are those of the record a
-abbrev Given : Start → Area → Type 0
-Given s a = let i = s.args in Parts a i.found i.allocations i.trains i.due
-
-refusal : (c : After-step_refusal-number) (a : Area) → Given c a → c.step_refusal-number.result ≡ (first_of (step_tests position_due a)).number
+refusal : (c : After-step_refusal-number) (a : Area) → Parts a c.args.found c.args.allocations c.args.trains c.args.due → c.step_refusal-number.result ≡ (first_of (step_tests position_due a)).number
 refusal c a h = rw (ap (λ (x : Examined). x.ok) h.found, h.due) at c.step_refusal-number.ensures
 
 -- the record was found sound, where test 11 is passed
-was-sound : (c : Else-number-ne0) → c.args.found.ok ≡ true
-was-sound c =
+was_sound_lem : (c : Else-number-ne0) → c.args.found.ok ≡ true
+was_sound_lem c =
     not-false _ (passed_by (not c.args.found.ok ⇒ 11 ∷ not (eqb c.args.due position_due) ⇒ 12 ∷ []) c.step_refusal-number.ensures refl c.if-number-ne0.false 11)
-
-long : (s : Start) → length s.args.trains ≡ most_trains
-long s = search long_of
 
 -- what the step makes of the trains and of the allocations of a record that was found sound with position due
 stepped :
@@ -66,20 +58,21 @@ stepped a spots new left f long due stands moves frees =
 
 pub returns-then-number-ne0 : goal.returns-then-number-ne0
 unfolding position_call
-returns-then-number-ne0 c a h e f = 
+returns-then-number-ne0 c a h e f =
     rw (h.allocations, h.trains, h.due)
     (change_by _ a (refused_by (step_tests position_due a) (refusal (goal.at.returns-then-number-ne0 c).After-step_refusal-number a h) (after_position a) a refl c.if-number-ne0.true))
 
 pub moved_all-trains_after-requires : goal.moved_all-trains_after-requires
-moved_all-trains_after-requires c = c.requires (was-sound (goal.at.moved_all-trains_after-requires c).Else-number-ne0)
+moved_all-trains_after-requires c = c.requires (was_sound_lem (goal.at.moved_all-trains_after-requires c).Else-number-ne0)
 
 pub returns : goal.returns
 unfolding position_call after_position
-returns c a h e f = 
+returns c a h e f =
     let number = refusal (goal.at.returns c).After-step_refusal-number a h in
     let ok : sound a ≡ true = not-false _ (passed_by (step_tests position_due a) number refl c.if-number-ne0.false 11) in
     let due : a.due ≡ position_due = eqb-true _ _ (not-false _ (passed_by (step_tests position_due a) number refl c.if-number-ne0.false 12)) in
-    let many : length a.trains ≡ most_trains = sym (ap length h.trains) ∙ long (goal.at.returns c).Start in
+    let long : length c.args.trains ≡ most_trains = search long_of in
+    let many : length a.trains ≡ most_trains = sym (ap length h.trains) ∙ long in
     let both =
     stepped a c.args.found.spots c.moved_all-trains_after.result c.released_all-allocations_after.result ((sound_iff a many).0 ok) many due
     (ap (λ (x : Examined). x.spots) h.found)

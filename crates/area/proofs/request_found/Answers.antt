@@ -12,23 +12,18 @@ use Rattle.area.proofs.Laws.{refused_by, finished_by, change_by}
 use Rattle.area.proofs.request_found.Goals as goal
 use Rattle.area.proofs.request_found.Goals.{After-step_refusal-number}
 
--- CHECK
--- the parts that the call is handed are those of the record a
-abbrev Given : Start → Area → Type 0
-Given s a = let i = s.args in Parts a i.found i.allocations i.trains i.due
-
-refusal : (c : After-step_refusal-number) (a : Area) → Given c a → c.step_refusal-number.result ≡ (first_of (step_tests request_due a)).number
+refusal : (c : After-step_refusal-number) (a : Area) → Parts a c.args.found c.args.allocations c.args.trains c.args.due → c.step_refusal-number.result ≡ (first_of (step_tests request_due a)).number
 refusal c a h = rw (ap (λ (x : Examined). x.ok) h.found, h.due) at c.step_refusal-number.ensures
 
 pub returns-then-number-ne0 : goal.returns-then-number-ne0
 unfolding request_call
-returns-then-number-ne0 c a h = 
+returns-then-number-ne0 c a h =
     rw (h.allocations, h.trains, h.due)
     (change_by _ a (refused_by (step_tests request_due a) (refusal (goal.at.returns-then-number-ne0 c).After-step_refusal-number a h) (after_request a) a refl c.if-number-ne0.true))
 
 pub returns : goal.returns
 unfolding request_call after_request
-returns c a h = 
+returns c a h =
     let spots = ap (λ (x : Examined). x.spots) h.found in
     let trains = rw h.trains at c.requested_all-trains_after.ensures in
     rw h.allocations

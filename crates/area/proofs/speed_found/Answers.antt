@@ -11,25 +11,20 @@ use Rattle.area.proofs.Laws.{refused_by, finished_by, change_by}
 use Rattle.area.proofs.speed_found.Goals as goal
 use Rattle.area.proofs.speed_found.Goals.{After-speed_refusal-number}
 
--- CHECK
--- the parts that the call is handed are those of the record a
-abbrev Given : Start → Area → Type 0
-Given s a = let i = s.args in Parts a i.found i.allocations i.trains i.due
-
 refusal :
-    (c : After-speed_refusal-number) (a : Area) → Given c a
+    (c : After-speed_refusal-number) (a : Area) → Parts a c.args.found c.args.allocations c.args.trains c.args.due
     → c.speed_refusal-number.result ≡ (first_of (speed_tests a c.args.wishes.now)).number
 refusal c a h = rw (ap (λ (x : Examined). x.ok) h.found, h.due) at c.speed_refusal-number.ensures
 
 pub returns-then-number-ne0 : goal.returns-then-number-ne0
 unfolding speed_call
-returns-then-number-ne0 c a h e = 
+returns-then-number-ne0 c a h e =
     rw (h.allocations, h.trains, h.due)
     (change_by _ a (refused_by (speed_tests a c.args.wishes.now) (refusal (goal.at.returns-then-number-ne0 c).After-speed_refusal-number a h) (after_speed a c.args.wishes.now) a refl c.if-number-ne0.true))
 
 pub returns : goal.returns
 unfolding speed_call after_speed
-returns c a h e = 
+returns c a h e =
     let spots = ap (λ (x : Examined). x.spots) h.found in
     let trains = rw (h.trains, e) at c.sped_all-trains_after.ensures in
     rw h.allocations

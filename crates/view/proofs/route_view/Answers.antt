@@ -7,10 +7,10 @@ use Rattle.view.proofs.View.{view_within}
 use Rattle.view.proofs.route_view.Goals as goal
 
 pub slice_bounds-result-end : goal.slice_bounds-result-end
-slice_bounds-result-end c = 
+slice_bounds-result-end c =
     omega (arith, c.view_of-view.ensures.0, c.view_of-view.ensures.1, view_within c.args.file.now c.args.route)
 
 pub returns : goal.returns
-returns c = 
+returns c =
     let m : c.view_of-view.result.start + c.view_of-view.result.count - c.view_of-view.result.start ≡ c.view_of-view.result.count = omega arith in
     record { bytes = rw (← c.view_of-view.ensures.0, ← c.view_of-view.ensures.1, m); object = refl; offset = rw (← c.view_of-view.ensures.0) }

@@ -16,7 +16,7 @@ on : (c : Else-not-is_shown) → shown c.args.file.now c.args.route ≡ true
 on c = test_holds c.is_shown.ensures (ap not c.if-not-is_shown.false)
 
 pub returns-then-not-is_shown : goal.returns-then-not-is_shown
-returns-then-not-is_shown c = 
+returns-then-not-is_shown c =
     let v = view_off _ _ (test_fails c.is_shown.ensures (ap not c.if-not-is_shown.true)) in
     (sym v.0, sym v.1)
 
@@ -27,7 +27,7 @@ pub route_start-start-requires : goal.route_start-start-requires
 route_start-start-requires c = let s = shown_facts _ _ (on (goal.at.route_start-start-requires c).Else-not-is_shown) in omega (arith, s.low, s.most)
 
 pub returns : goal.returns
-returns c = 
+returns c =
     let s = shown_facts c.args.file.now c.args.route (on (goal.at.returns c).Else-not-is_shown) in
     let v = view_on c.args.file.now c.args.route (on (goal.at.returns c).Else-not-is_shown) in
     let e : c.args.route - 1 + 1 ≡ c.args.route = omega (arith, s.low) in

@@ -7,7 +7,7 @@ use Rattle.area.proofs.Area.enter.Goals as goal
 
 pub returns : goal.returns
 unfolding enter_call after_enter
-returns c = 
+returns c =
     let j : Journey = record { route = c.args.route; length = c.args.length } in
     c.outcome_of.ensures
     ∙ outcome_by_lem (enter_tests c.args.self c.args.train j c.args.speed) (after_enter c.args.self c.args.train j c.args.speed) c.args.self refl refl

@@ -7,7 +7,7 @@ use Rattle.area.proofs.Area.grant.Goals as goal
 
 pub returns : goal.returns
 unfolding grant_call after_grant
-returns c = 
+returns c =
     c.outcome_of.ensures
     ∙ outcome_by_lem (step_tests grant_due c.args.self) (after_grant c.args.self) c.args.self refl refl
     (c.grant_found-change.ensures c.args.self (record { found = c.examine-found.ensures; allocations = refl; trains = refl; due = refl }) refl)

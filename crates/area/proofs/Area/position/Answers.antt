@@ -16,12 +16,12 @@ long s = search long_of
 
 -- a record that is found sound gives each train the room that its move asks for
 pub position_found-change-requires : goal.position_found-change-requires
-position_found-change-requires c ok = 
+position_found-change-requires c ok =
     room_of c.args.self ((sound_iff c.args.self (long (goal.at.position_found-change-requires c).Start)).0 (sym (ap (λ (x : Examined). x.ok) c.examine-found.ensures) ∙ ok)) (long (goal.at.position_found-change-requires c).Start)
 
 pub returns : goal.returns
 unfolding position_call after_position
-returns c = 
+returns c =
     c.outcome_of.ensures
     ∙ outcome_by_lem (step_tests position_due c.args.self) (after_position c.args.self) c.args.self refl refl
     (c.position_found-change.ensures c.args.self (record { found = c.examine-found.ensures; allocations = refl; trains = refl; due = refl }) refl refl)

@@ -11,5 +11,5 @@ returns-then-not-sound c = rw (test_fails c.sound.ensures (ap not c.if-not-sound
 
 pub returns : goal.returns
 unfolding reported
-returns c = 
+returns c =
     rw (test_holds c.sound.ensures (ap not c.if-not-sound.false), c.answer_of-2.ensures, c.summary_of-summary.ensures)

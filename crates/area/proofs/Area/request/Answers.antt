@@ -7,7 +7,7 @@ use Rattle.area.proofs.Area.request.Goals as goal
 
 pub returns : goal.returns
 unfolding request_call after_request
-returns c = 
+returns c =
     c.outcome_of.ensures
     ∙ outcome_by_lem (step_tests request_due c.args.self) (after_request c.args.self) c.args.self refl refl
     (c.request_found-change.ensures c.args.self (record { found = c.examine-found.ensures; allocations = refl; trains = refl; due = refl }))

@@ -6,7 +6,7 @@ use Rattle.area.proofs.Area.speed.Goals as goal
 
 pub returns : goal.returns
 unfolding speed_call after_speed
-returns c = 
+returns c =
     c.outcome_of.ensures
     ∙ outcome_by_lem (speed_tests c.args.self c.args.wishes.now) (after_speed c.args.self c.args.wishes.now) c.args.self refl refl
     (c.speed_found-change.ensures c.args.self (record { found = c.examine-found.ensures; allocations = refl; trains = refl; due = refl }) refl)

@@ -13,15 +13,15 @@ use Rattle.area.proofs.Area.write.Goals as goal
 
 pub returns-then-not-sound : goal.returns-then-not-sound
 unfolding write_answer buffer_after
-returns-then-not-sound c = rw (test_fails c.sound.ensures (ap not c.if-not-sound.true), c.answer_of.ensures) (refl, refl)
+returns-then-not-sound c = rw (test_fails c.sound.ensures (ap not c.if-not-sound.true), c.answer_of.ensures) (record { value = refl; buffer_after = refl })
 
 pub returns-then-buffer-ne-FILE_SIZE : goal.returns-then-buffer-ne-FILE_SIZE
 unfolding write_answer buffer_after
-returns-then-buffer-ne-FILE_SIZE c = 
-    rw (test_holds c.sound.ensures (ap not c.if-not-sound.false), ne_eqb _ file_size c.if-buffer-ne-FILE_SIZE.true, c.answer_of-then-buffer-ne-FILE_SIZE.ensures) (refl, refl)
+returns-then-buffer-ne-FILE_SIZE c =
+    rw (test_holds c.sound.ensures (ap not c.if-not-sound.false), ne_eqb _ file_size c.if-buffer-ne-FILE_SIZE.true, c.answer_of-then-buffer-ne-FILE_SIZE.ensures) (record { value = refl; buffer_after = refl })
 
 pub returns : goal.returns
 unfolding write_answer buffer_after
-returns c = 
+returns c =
     rw (test_holds c.sound.ensures (ap not c.if-not-sound.false), eq-eqb _ file_size c.if-buffer-ne-FILE_SIZE.false, c.answer_of-2.ensures)
-    (refl, c.write_tables.ensures ∙ put_over _ _ (encoded_long _ ∙ sym c.if-buffer-ne-FILE_SIZE.false))
+    (record { value = refl; buffer_after = c.write_tables.ensures ∙ put_over _ _ (encoded_long _ ∙ sym c.if-buffer-ne-FILE_SIZE.false) })
