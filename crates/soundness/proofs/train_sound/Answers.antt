@@ -35,7 +35,7 @@ returns-then-not-place_sound c =
 pub braking_sound-requires : goal.braking_sound-requires
 braking_sound-requires c =
     let f = place_facts c.args.routes c.args.spot c.args.x (placed (goal.at.braking_sound-requires c).Else-not-place_sound) in
-    (c.UNKNOWNpre.0, le_trans (S-mono c.args.braking c.UNKNOWNpre.0 _ _ f.4) (c.UNKNOWNpre.1 (omega arith) (placed (goal.at.braking_sound-requires c).Else-not-place_sound)))
+    (c.requires.0, le_trans (S-mono c.args.braking c.requires.0 _ _ f.4) (c.requires.1 (omega arith) (placed (goal.at.braking_sound-requires c).Else-not-place_sound)))
 
 pub returns : goal.returns
 unfolding stands_sound

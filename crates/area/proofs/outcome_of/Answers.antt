@@ -1,0 +1,5 @@
+use borrow.Author.Rules.{rules}
+use Rattle.area.proofs.outcome_of.Goals as goal
+
+pub returns : goal.returns
+returns c = simp c.answer_of-answer.ensures

@@ -1,0 +1,21 @@
+use Prim.Native.Nat.{ℕ, ◌-◌}
+use mathlib.Core.Path.{refl}
+use native.Mathlib.Omega.{arith}
+use borrow.Author.Rules.{rules}
+use Rattle.lists.proofs.Numbered.{nth_index, long_of}
+use Rattle.lists.proofs.Loops.{Made, make_begin, make_more, make_over}
+use Rattle.trains.specs.declared.Train.{Train}
+use Rattle.trains.specs.Train.{off}
+use Rattle.standing.specs.Spots.{no_spot, spot_at}
+use Rattle.steps.specs.Left.{left_in}
+use Rattle.cycle.proofs.left_all.Goals as goal
+
+pub loop-i-init : goal.loop-i-init
+loop-i-init c = make_begin (search long_of) refl
+
+pub loop-i-preserved : goal.loop-i-preserved
+loop-i-preserved c =
+    make_more c.loop-i.invariant off c.loop-i-test.true (rw (nth_index no_spot) c.left_by.ensures)
+
+pub returns : goal.returns
+returns c = make_over c.loop-i.invariant c.loop-i-test.false

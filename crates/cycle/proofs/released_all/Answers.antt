@@ -1,0 +1,5 @@
+use borrow.Author.Rules.{rules}
+use Rattle.cycle.proofs.released_all.Goals as goal
+
+pub returns : goal.returns
+returns c = rw c.left_all.ensures at c.released_by.ensures

@@ -1,0 +1,18 @@
+use Prim.Native.Nat.{ℕ, ◌-◌}
+use native.Mathlib.Omega.{arith}
+use lib.Dec.{eqb}
+use borrow.Author.Rules.{rules}
+use Rattle.lists.specs.Words.{if◌then◌else◌, at}
+use Rattle.lists.proofs.Loops.{Made, make_begin, make_more, make_over}
+use Rattle.cycle.proofs.released_by.Goals as goal
+
+pub loop-i-init : goal.loop-i-init
+loop-i-init c = make_begin (search rules) (search rules)
+
+pub loop-i-preserved : goal.loop-i-preserved
+loop-i-preserved c =
+    make_more c.loop-i.invariant _ c.loop-i-test.true
+    c.released_one.ensures
+
+pub returns : goal.returns
+returns c = make_over c.loop-i.invariant c.loop-i-test.false

@@ -1,0 +1,20 @@
+use Prim.Native.Nat.{ℕ, ◌-◌}
+use native.Mathlib.Omega.{arith}
+use borrow.Author.Rules.{rules}
+use Rattle.lists.proofs.Numbered.{long_of, nth_index}
+use Rattle.lists.proofs.Loops.{Made, make_begin, make_more, make_over}
+use Rattle.trains.specs.declared.Train.{Train}
+use Rattle.trains.specs.Train.{off}
+use Rattle.trains.specs.Cycle.{requested_at}
+use Rattle.standing.specs.Spots.{spot_at}
+use Rattle.cycle.proofs.requested_all.Goals as goal
+
+pub loop-i-init : goal.loop-i-init
+loop-i-init c = make_begin (search long_of) (search long_of)
+
+pub loop-i-preserved : goal.loop-i-preserved
+loop-i-preserved c =
+    make_more c.loop-i.invariant off c.loop-i-test.true (rw nth_index c.requested_train.ensures)
+
+pub returns : goal.returns
+returns c = make_over c.loop-i.invariant c.loop-i-test.false

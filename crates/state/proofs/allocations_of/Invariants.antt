@@ -1,0 +1,13 @@
+-- The loop computes the array by number: the allocation of segment s is byte s of the state.
+use Prim.Native.Nat.{◌-◌}
+use native.Mathlib.Omega.{arith}
+use borrow.Author.Rules.{rules}
+use Rattle.lists.proofs.Loops.{Tabled, table_begin, table_more, table_over}
+use Rattle.file.specs.Bytes.{byte_at}
+use Rattle.state.proofs.allocations_of.Given as goal
+
+abbrev pub invariant-loop-i : goal.invariant-loop-i
+invariant-loop-i l = Tabled 62 (byte_at l.state) l.i l.new
+
+abbrev pub decreases-loop-i : goal.decreases-loop-i
+decreases-loop-i l = 62 - l.i

@@ -1,0 +1,24 @@
+use Prim.Native.Nat.{◌-◌}
+use mathlib.Core.Path.{◌≡◌}
+use native.Mathlib.Omega.{arith}
+use lib.ListN.{length}
+use borrow.Author.Rules.{rules}
+use Rattle.lists.proofs.Numbered.{long_of}
+use Rattle.state.proofs.Laws.{Left, left_all, left_fewer, left_none}
+use Rattle.state.proofs.write_trains.Goals as goal
+
+pub loop-i-init : goal.loop-i-init
+loop-i-init c = left_all
+
+pub loop-i-preserved : goal.loop-i-preserved
+loop-i-preserved c =
+    let long : length c.args.trains ≡ 24 = search long_of in
+    left_fewer c.loop-i.invariant (omega arith) c.train_bytes-row.ensures c.put.ensures (search rules)
+
+pub shape_of-buffer : goal.shape_of-buffer
+shape_of-buffer c = c.loop-i.invariant.long
+
+pub returns : goal.returns
+returns c =
+    let long : length c.args.trains ≡ 24 = search long_of in
+    left_none c.loop-i.invariant (omega arith)

@@ -1,0 +1,5 @@
+use borrow.Author.Rules.{rules}
+use Rattle.view.proofs.tell_view.Goals as goal
+
+pub returns : goal.returns
+returns c = c.view_of-view.ensures
