@@ -10,11 +10,17 @@ use Rattle.writing.proofs.rewrite.Goals as goal
 
 pub returns-then-number_of-ne0 : goal.returns-then-number_of-ne0
 returns-then-number_of-ne0 c =
-    rw c.load-o.ensures (rewrite_refused _ _ (λ e. c.if-number_of-ne0.true (c.number_of.ensures ∙ ap (λ (o : Outcome). number_of o.answer) c.load-o.ensures ∙ e)))
+    let r =
+    rewrite_refused c.args.file.now c.args.buffer.now
+    (λ e. c.if-number_of-ne0.true (c.number_of.ensures ∙ ap (λ (o : Outcome). number_of o.answer) c.load-o.ensures ∙ e)) in
+    rw c.load-o.ensures (record { value = r.0; buffer_after = r.1 })
 
 pub returns : goal.returns
 returns c =
     let done = sym (c.number_of.ensures ∙ ap (λ (o : Outcome). number_of o.answer) c.load-o.ensures) ∙ c.if-number_of-ne0.false in
-    let octets : Octets c.args.file.now = λ i. omega (arith, c.shared_slice_known-1.given i) in
+    let octets : Octets c.args.file.now = λ i. omega (arith, c.type_inv.file i) in
     let d = rewrite_done c.args.file.now _ octets done in
-    (rw c.load-o.ensures at c.write.ensures.0 ∙ d.0, rw c.load-o.ensures at c.write.ensures.1 ∙ d.1)
+    record {
+      value = rw c.load-o.ensures at c.write.ensures.value ∙ d.0;
+      buffer_after = rw c.load-o.ensures at c.write.ensures.buffer_after ∙ d.1;
+    }

@@ -2,8 +2,8 @@ use Rattle.area.proofs.Area.sound.Symbol.{name as #told, routine}
 use Rattle.area.proofs.Area.sound.Met.{met}
 use Rattle.rbu.proofs.Walk.{judge_holds}
 use Rattle.rbu.specs.contracts.rbu_is_sound.Key.{name as #own}
-use Rattle.rbu.proofs.rbu_is_sound.Statement.{statement}
 use Rattle.rbu.proofs.rbu_is_sound.Code as code
+use Rattle.rbu.proofs.rbu_is_sound.Goals as goal
 
 pub rbu-is-sound-spec : {M : Type 1} → statement M
 unfolding code.routine

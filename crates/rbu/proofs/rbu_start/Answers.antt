@@ -2,8 +2,8 @@ use Rattle.running.proofs.start.Symbol.{name as #told, routine}
 use Rattle.running.proofs.start.Met.{met}
 use Rattle.rbu.proofs.Walk.{start_holds}
 use Rattle.rbu.specs.contracts.rbu_start.Key.{name as #own}
-use Rattle.rbu.proofs.rbu_start.Statement.{statement}
 use Rattle.rbu.proofs.rbu_start.Code as code
+use Rattle.rbu.proofs.rbu_start.Goals as goal
 
 pub rbu-start-spec : {M : Type 1} → statement M
 unfolding code.routine

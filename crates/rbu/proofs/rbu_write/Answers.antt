@@ -2,8 +2,8 @@ use Rattle.writing.proofs.write.Symbol.{name as #told, routine}
 use Rattle.writing.proofs.write.Met.{met}
 use Rattle.rbu.proofs.Walk.{write_holds}
 use Rattle.rbu.specs.contracts.rbu_write.Key.{name as #own}
-use Rattle.rbu.proofs.rbu_write.Statement.{statement}
 use Rattle.rbu.proofs.rbu_write.Code as code
+use Rattle.rbu.proofs.rbu_write.Goals as goal
 
 pub rbu-write-spec : {M : Type 1} → statement M
 unfolding code.routine
