@@ -3,5 +3,5 @@ use borrow.Author.Rules.{rules}
 use Rattle.rbu.proofs.rbu_write_record.Goals as goal
 
 pub returns : goal.returns
-returns c = 
+returns c =
     rw c.record_of.ensures at c.write.ensures
