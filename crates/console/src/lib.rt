@@ -2,7 +2,8 @@
 // prints nothing more once a write has failed.
 #![tactic(auto)]
 
-ghost use Rattle.std.specs.Prelude.{◌≡◌, ◌≤◌, length, take};
+ghost use Rattle.std.specs.Prelude.{◌≡◌, ◌<◌, ◌≤◌, length, take, IsNone};
+ghost use Rattle.std.specs.Io.KnownBytes.{Consumes, IsAtEnd};
 
 use std::io;
 use std::io::Read;
@@ -16,7 +17,9 @@ pub struct Input {
 
 // One read into the buffer: how many bytes came, none at the end of the input, and why it failed where it did.
 fn read_once<R: Read>(input: &mut R, buffer: &mut [u8]) -> Input
-    ensures { result.count ≤ length buffer.old }
+    ensures in_bounds { result.count ≤ length buffer.old }
+    ensures bytes { Consumes (R.remaining input.old) (R.remaining input.new) (take result.count buffer.new) }
+    ensures end { IsNone result.failed → result.count ≡ 0 → 0 < length buffer.new → IsAtEnd (R.remaining input.new) }
 {
     match input.read(buffer) {
         Ok(count) => Input {
@@ -31,10 +34,12 @@ fn read_once<R: Read>(input: &mut R, buffer: &mut [u8]) -> Input
 }
 
 // Reads an input until it ends, a read fails or the buffer is full. Nothing is read after the end, so that at a terminal it is
-// given once.
+// given once. What an input of known bytes gave stands at the front of the buffer, and all of it where the buffer has room left.
 pub fn read_input<R: Read>(input: &mut R, buffer: &mut [u8]) -> Input
     ensures in_bounds { result.count ≤ length buffer.new }
     ensures counts { result.count ≡ length (take result.count buffer.new) }
+    ensures bytes { Consumes (R.remaining input.old) (R.remaining input.new) (take result.count buffer.new) }
+    ensures end { IsNone result.failed → result.count < length buffer.new → IsAtEnd (R.remaining input.new) }
 {
     let mut count = 0;
     while count < buffer.len() {
