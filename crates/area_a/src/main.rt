@@ -4,27 +4,29 @@
 
 use answers::Answer;
 use area::{Area, Outcome};
-use libc::STDOUT_FILENO;
+use std::env::Env;
+use std::io;
+use std::rt::Files;
 
 // Says what was refused, and how.
-fn say_refusal(call: &[u8], answer: Answer) -> bool {
-    io::write_all(STDOUT_FILENO, call)
-        && io::write_all(STDOUT_FILENO, b": ")
-        && wording::say_answer(answers::number_of(answer), answers::place_of(answer))
+fn say_refusal(rt: &impl Print, call: &[u8], answer: Answer) -> io::Result<()> {
+    rt.write_all(call)?;
+    rt.write_all(b": ")?;
+    wording::say_answer(rt, answers::number_of(answer), answers::place_of(answer))
 }
 
 // The listing's line for a train.
-fn list_train(cycle: u8, area: Area, train: u8) -> bool {
+fn list_train(rt: &impl Print, cycle: u8, area: Area, train: u8) -> io::Result<()> {
     let tables = area.tables;
     let trains = area.trains;
     let x = standing::train_at(trains, train);
     let segment = standing::own_of(&tables.routebytes, x);
-    console::say_number(b"", cycle as u64)
-        && console::say_number(b" ", train as u64)
-        && console::say_number(b" ", segment as u64)
-        && console::say_number(b" ", x.position as u64)
-        && console::say_number(b" ", x.speed as u64)
-        && io::write_all(STDOUT_FILENO, b"\n")
+    console::say_number(rt, b"", cycle as u64)?;
+    console::say_number(rt, b" ", train as u64)?;
+    console::say_number(rt, b" ", segment as u64)?;
+    console::say_number(rt, b" ", x.position as u64)?;
+    console::say_number(rt, b" ", x.speed as u64)?;
+    rt.write_all(b"\n")
 }
 
 // What a cycle comes to: its last step that was called, 0 speed to 3 position, and the outcome of that.
@@ -67,70 +69,65 @@ fn run_cycle(area: Area) -> Cycle {
     }
 }
 
-fn say_refused_step(step: u8, answer: Answer) -> bool {
+fn say_refused_step(rt: &impl Print, step: u8, answer: Answer) -> io::Result<()> {
     match step {
-        0 => say_refusal(b"speed", answer),
-        1 => say_refusal(b"request", answer),
-        2 => say_refusal(b"grant", answer),
-        _ => say_refusal(b"position", answer),
+        0 => say_refusal(rt, b"speed", answer),
+        1 => say_refusal(rt, b"request", answer),
+        2 => say_refusal(rt, b"grant", answer),
+        _ => say_refusal(rt, b"position", answer),
     }
 }
 
 // The listing of six cycles, up to a step that is refused.
-fn run_cycles(entered: Area) -> bool {
+fn run_cycles(rt: &impl Print, entered: Area) -> io::Result<()> {
     let mut area = entered;
     for cycle in 1..7 {
         let ran = run_cycle(area);
         let outcome = ran.outcome;
         let answer = outcome.answer;
         if answers::number_of(answer) != 0 {
-            return say_refused_step(ran.step, answer);
+            return say_refused_step(rt, ran.step, answer);
         }
         area = outcome.area;
-        if !list_train(cycle, area, 1) {
-            return false;
-        }
-        if !list_train(cycle, area, 2) {
-            return false;
-        }
+        list_train(rt, cycle, area, 1)?;
+        list_train(rt, cycle, area, 2)?;
     }
-    true
+    Ok(())
 }
 
-fn run_file(file: &[u8]) -> bool {
+fn run_file(rt: &impl Print, file: &[u8]) -> io::Result<()> {
     let loaded = loading::load(file);
     let answer = loaded.answer;
     if answers::number_of(answer) != 0 {
-        return say_refusal(b"load", answer);
+        return say_refusal(rt, b"load", answer);
     }
     let one = loaded.area.enter(1, 1, 250, 1);
     let answer = one.answer;
     if answers::number_of(answer) != 0 {
-        return say_refusal(b"enter of train 1", answer);
+        return say_refusal(rt, b"enter of train 1", answer);
     }
     let both = one.area.enter(2, 2, 200, 1);
     let answer = both.answer;
     if answers::number_of(answer) != 0 {
-        return say_refusal(b"enter of train 2", answer);
+        return say_refusal(rt, b"enter of train 2", answer);
     }
-    if !io::write_all(STDOUT_FILENO, b"cycle train segment position speed\n") {
-        return false;
-    }
-    run_cycles(both.area)
+    rt.write_all(b"cycle train segment position speed\n")?;
+    run_cycles(rt, both.area)
 }
 
-fn run_named() -> bool {
+fn run_named<R: Env + Files + Input + Print + Eprint>(rt: &R) -> io::Result<()> {
     let mut buffer = [0u8; named_file::ROOM];
-    let input = named_file::read(&mut buffer);
-    if input.failed {
-        return named_file::say_unread();
+    let input = named_file::read(rt, &mut buffer);
+    if input.failed.is_some() {
+        return named_file::say_unread(rt);
     }
     let n = input.count;
-    run_file(&buffer[..n])
+    run_file(rt, &buffer[..n])
 }
 
-fn main() {
-    if !run_named() {
-        console::say_unwritten(b"area_a");
+// Where the output cannot be written nothing more is printed, and the program says so and ends.
+fn main(rt: HostRuntime) {
+    if run_named(&rt).is_err() {
+        console::say_unwritten(&rt.stderr(), b"area_a");
     }
 }

@@ -2,37 +2,48 @@
 // prints nothing more once a write has failed.
 #![tactic(auto)]
 
-ghost use Rattle.std.specs.Prelude.{◌≤◌, length};
-ghost use Rattle.io.specs.Counts.{IsPrefixLen};
+ghost use Rattle.std.specs.Prelude.{◌≡◌, ◌<◌, ◌≤◌, length, take, IsNone};
+ghost use Rattle.std.specs.Io.KnownBytes.{Consumes, IsAtEnd};
 
-use libc::{STDERR_FILENO, STDOUT_FILENO};
+use std::io;
+use std::io::Read;
 
-// How many bytes of the buffer were read, and whether the input could not be read to its end.
+// How many bytes of the buffer were read, and why the input could not be read to its end, where it could not.
 #[derive(Clone, Copy)]
 pub struct Input {
     pub count: usize,
-    pub failed: bool,
+    pub failed: Option<io::Error>,
 }
 
-// One read into the buffer: how many bytes came, none at the end of the input, and whether it failed.
-fn read_once(fd: i32, buffer: &mut [u8]) -> Input
-    ensures { result.count ≤ length buffer.old }
+// One read into the buffer: how many bytes came, none at the end of the input, and why it failed where it did.
+fn read_once<R: Read>(input: &mut R, buffer: &mut [u8]) -> Input
+    ensures in_bounds { result.count ≤ length buffer.old }
+    ensures bytes { Consumes (R.remaining input.old) (R.remaining input.new) (take result.count buffer.new) }
+    ensures end { IsNone result.failed → result.count ≡ 0 → 0 < length buffer.new → IsAtEnd (R.remaining input.new) }
 {
-    let got = libc::read(fd, buffer);
-    Input {
-        count: io::count(got, buffer),
-        failed: got < 0,
+    match input.read(buffer) {
+        Ok(count) => Input {
+            count,
+            failed: None,
+        },
+        Err(error) => Input {
+            count: 0,
+            failed: Some(error),
+        },
     }
 }
 
 // Reads an input until it ends, a read fails or the buffer is full. Nothing is read after the end, so that at a terminal it is
-// given once.
-pub fn read_input(fd: i32, buffer: &mut [u8]) -> Input
-    ensures { IsPrefixLen result.count buffer.new }
+// given once. What an input of known bytes gave stands at the front of the buffer, and all of it where the buffer has room left.
+pub fn read_input<R: Read>(input: &mut R, buffer: &mut [u8]) -> Input
+    ensures in_bounds { result.count ≤ length buffer.new }
+    ensures counts { result.count ≡ length (take result.count buffer.new) }
+    ensures bytes { Consumes (R.remaining input.old) (R.remaining input.new) (take result.count buffer.new) }
+    ensures end { IsNone result.failed → result.count < length buffer.new → IsAtEnd (R.remaining input.new) }
 {
     let mut count = 0;
     while count < buffer.len() {
-        let once = read_once(fd, &mut buffer[count..]);
+        let once = read_once(input, &mut buffer[count..]);
         if once.count == 0 {
             return Input {
                 count,
@@ -43,17 +54,18 @@ pub fn read_input(fd: i32, buffer: &mut [u8]) -> Input
     }
     Input {
         count,
-        failed: false,
+        failed: None,
     }
 }
 
 // A text and a number after it.
-pub fn say_number(text: &[u8], number: u64) -> bool {
-    io::write_all(STDOUT_FILENO, text) && io::print_decimal(STDOUT_FILENO, number)
+pub fn say_number(rt: &impl Print, text: &[u8], number: u64) -> io::Result<()> {
+    rt.write_all(text)?;
+    print!(rt; "{number}")
 }
 
 // What a program says where its output could not be written.
-pub fn say_unwritten(program: &[u8]) {
-    io::write_all(STDERR_FILENO, program);
-    io::write_all(STDERR_FILENO, b": the output could not be written\n");
+pub fn say_unwritten(stderr: &impl Print, program: &[u8]) {
+    let _ = stderr.write_all(program);
+    let _ = stderr.write_all(b": the output could not be written\n");
 }

@@ -1,74 +1,125 @@
 // The area file that a program is to run: the one that its argument names, or standard input where it has no argument.
 #![tactic(auto)]
 
-ghost use Rattle.io.specs.Counts.{IsPrefixLen};
+ghost use Rattle.std.specs.Prelude.{◌≡◌, ◌≤◌, length, take};
 
+use arrayvec::ArrayString;
 use console::Input;
-use libc::{STDERR_FILENO, STDIN_FILENO, STDOUT_FILENO};
+use std::env::{Env, FillError};
+use std::fmt::Write;
+use std::fs;
+use std::io::{self, ErrorKind, Read};
+use std::rt::Files;
 
 // Room for a file and one byte more, so that a longer one is seen to be longer.
 pub const ROOM: usize = 2561;
 
-const UNREAD: Input = Input {
-    count: 0,
-    failed: true,
-};
+// Nothing was read, and why.
+fn unread(reason: io::Error) -> Input
+    ensures { result.count ≡ 0 }
+{
+    Input {
+        count: 0,
+        failed: Some(reason),
+    }
+}
+
+// The system's words for an error: std puts its number after them, as in `No such file or directory (os error 2)`.
+fn words_of(text: &str) -> &str {
+    match text.split_once(" (os error ") {
+        Some((words, _)) => words,
+        None => text,
+    }
+}
+
+// Says why what has this name could not be read.
+fn fail(rt: &impl Eprint, name: &str, reason: io::Error) {
+    let mut text = ArrayString::<256>::new();
+    let _ = write!(text, "{reason}");
+    let words = words_of(text.as_str());
+    let _ = eprintln!(rt; "{name}: {words}");
+}
 
 // Reads what has been opened, and says why where that fails.
-fn read_opened(fd: i32, name: &[u8], buffer: &mut [u8]) -> Input
-    ensures { IsPrefixLen result.count buffer.new }
+fn read_opened<F: Read>(rt: &impl Eprint, file: &mut F, name: &str, buffer: &mut [u8]) -> Input
+    ensures in_bounds { result.count ≤ length buffer.new }
+    ensures counts { result.count ≡ length (take result.count buffer.new) }
 {
-    let input = console::read_input(fd, buffer);
-    if input.failed {
-        os::fail(name);
+    let input = console::read_input(file, buffer);
+    if let Some(reason) = input.failed {
+        fail(rt, name, reason);
     }
     input
 }
 
-fn read_named(name: &[u8], buffer: &mut [u8]) -> Input
-    ensures { IsPrefixLen result.count buffer.new }
+fn read_named<R: Files + Eprint>(rt: &R, name: &str, buffer: &mut [u8]) -> Input
+    ensures in_bounds { result.count ≤ length buffer.new }
+    ensures counts { result.count ≡ length (take result.count buffer.new) }
 {
-    let fd = os::open_read(name);
-    if fd < 0 {
-        os::fail(name);
-        return UNREAD;
+    match fs::open(rt, name) {
+        Ok(mut file) => read_opened(rt, &mut file, name, buffer),
+        Err(reason) => {
+            fail(rt, name, reason);
+            unread(reason)
+        }
     }
-    let input = read_opened(fd, name, buffer);
-    libc::close(fd);
-    input
 }
 
-fn read_argument(buffer: &mut [u8]) -> Input
-    ensures { IsPrefixLen result.count buffer.new }
-{
-    let mut name = io::buffer();
-    let n = os::arg(1, &mut name);
-    if os::errno() != 0 {
-        os::fail(b"the file's name");
-        return UNREAD;
+// The program's argument. A path is text for std, so that a name that is not cannot be opened.
+fn argument<'a>(rt: &impl Env, name: &'a mut [u8]) -> io::Result<&'a str> {
+    let n = match rt.arg(1, name) {
+        Ok(n) => n,
+        Err(FillError::TooLong) => {
+            return Err(io::Error::new(ErrorKind::InvalidFilename, "File name too long"));
+        }
+        Err(FillError::NotPresent) => {
+            return Err(io::Error::new(ErrorKind::InvalidInput, "Invalid argument"));
+        }
+    };
+    match str::from_utf8(&name[..n]) {
+        Ok(text) => Ok(text),
+        Err(_) => Err(io::Error::new(ErrorKind::InvalidFilename, "not text in UTF-8")),
     }
-    read_named(&name[..n], buffer)
+}
+
+fn read_argument<R: Env + Files + Eprint>(rt: &R, buffer: &mut [u8]) -> Input
+    ensures in_bounds { result.count ≤ length buffer.new }
+    ensures counts { result.count ≡ length (take result.count buffer.new) }
+{
+    let mut name = [0u8; 4096];
+    match argument(rt, &mut name) {
+        Ok(name) => read_named(rt, name, buffer),
+        Err(reason) => {
+            fail(rt, "the file's name", reason);
+            unread(reason)
+        }
+    }
+}
+
+fn has_argument(rt: &impl Env, i: usize) -> bool {
+    !matches!(rt.arg(i, &mut []), Err(FillError::NotPresent))
 }
 
 // Reads the file to its end or until the buffer is full. Where it cannot be read, standard error has the reason.
-pub fn read(buffer: &mut [u8]) -> Input
-    ensures { IsPrefixLen result.count buffer.new }
+pub fn read<R: Env + Files + io::Input + Eprint>(rt: &R, buffer: &mut [u8]) -> Input
+    ensures in_bounds { result.count ≤ length buffer.new }
+    ensures counts { result.count ≡ length (take result.count buffer.new) }
 {
-    let words = os::arg_count();
-    if words < 2 {
-        return read_opened(STDIN_FILENO, b"standard input", buffer);
+    if !has_argument(rt, 1) {
+        return read_opened(rt, &mut rt.reader(), "standard input", buffer);
     }
-    if 2 < words {
-        io::write_all(
-            STDERR_FILENO,
-            b"name one file, or none to read standard input\n",
+    if has_argument(rt, 2) {
+        let reason = io::Error::new(
+            ErrorKind::InvalidInput,
+            "name one file, or none to read standard input",
         );
-        return UNREAD;
+        let _ = eprintln!(rt; "{reason}");
+        return unread(reason);
     }
-    read_argument(buffer)
+    read_argument(rt, buffer)
 }
 
 // What a program prints in the place of what it would have said of the file.
-pub fn say_unread() -> bool {
-    io::write_all(STDOUT_FILENO, b"the input could not be read\n")
+pub fn say_unread(rt: &impl Print) -> io::Result<()> {
+    rt.write_all(b"the input could not be read\n")
 }

@@ -1,4 +1,1 @@
-pub mod Further
 pub mod Laws
-pub mod Steps
-pub mod Walk

@@ -40,8 +40,10 @@ pub extern "C" fn rbu_enter(area: &mut Area, train: u16, route: u16, speed: u16,
 {
     let before = *area;
     let change = running::enter(before, train, route, speed, length);
-    area.allocations = change.allocations;
-    area.trains = change.trains;
+    let allocations = change.allocations;
+    let trains = change.trains;
+    area.allocations = allocations;
+    area.trains = trains;
     area.due = change.due;
     change.number
 }
@@ -52,8 +54,10 @@ pub extern "C" fn rbu_leave(area: &mut Area, train: u16) -> u8
 {
     let before = *area;
     let change = running::leave(before, train);
-    area.allocations = change.allocations;
-    area.trains = change.trains;
+    let allocations = change.allocations;
+    let trains = change.trains;
+    area.allocations = allocations;
+    area.trains = trains;
     area.due = change.due;
     change.number
 }
@@ -64,8 +68,10 @@ pub extern "C" fn rbu_speed(area: &mut Area, wishes: &[u16]) -> u8
 {
     let before = *area;
     let change = running::speed(before, wishes);
-    area.allocations = change.allocations;
-    area.trains = change.trains;
+    let allocations = change.allocations;
+    let trains = change.trains;
+    area.allocations = allocations;
+    area.trains = trains;
     area.due = change.due;
     change.number
 }
@@ -76,8 +82,10 @@ pub extern "C" fn rbu_request(area: &mut Area) -> u8
 {
     let before = *area;
     let change = running::request(before);
-    area.allocations = change.allocations;
-    area.trains = change.trains;
+    let allocations = change.allocations;
+    let trains = change.trains;
+    area.allocations = allocations;
+    area.trains = trains;
     area.due = change.due;
     change.number
 }
@@ -88,8 +96,10 @@ pub extern "C" fn rbu_grant(area: &mut Area) -> u8
 {
     let before = *area;
     let change = running::grant(before);
-    area.allocations = change.allocations;
-    area.trains = change.trains;
+    let allocations = change.allocations;
+    let trains = change.trains;
+    area.allocations = allocations;
+    area.trains = trains;
     area.due = change.due;
     change.number
 }
@@ -100,8 +110,10 @@ pub extern "C" fn rbu_position(area: &mut Area) -> u8
 {
     let before = *area;
     let change = running::position(before);
-    area.allocations = change.allocations;
-    area.trains = change.trains;
+    let allocations = change.allocations;
+    let trains = change.trains;
+    area.allocations = allocations;
+    area.trains = trains;
     area.due = change.due;
     change.number
 }

@@ -1,42 +1,43 @@
 // What a program prints of an answer: its number, its place and its word (docs/FORMATS.md).
 #![tactic(auto)]
 
-use libc::STDOUT_FILENO;
+use std::io;
 
 // The word for an answer.
-fn say_word(number: u8) -> bool {
-    match number {
-        0 => io::write_all(STDOUT_FILENO, b"done\n"),
-        1 => io::write_all(STDOUT_FILENO, b"size\n"),
-        2 => io::write_all(STDOUT_FILENO, b"damaged\n"),
-        3 => io::write_all(STDOUT_FILENO, b"misfiled\n"),
-        4 => io::write_all(STDOUT_FILENO, b"header\n"),
-        5 => io::write_all(STDOUT_FILENO, b"margin\n"),
-        6 => io::write_all(STDOUT_FILENO, b"segment\n"),
-        7 => io::write_all(STDOUT_FILENO, b"joint\n"),
-        8 => io::write_all(STDOUT_FILENO, b"order\n"),
-        9 => io::write_all(STDOUT_FILENO, b"drop\n"),
-        10 => io::write_all(STDOUT_FILENO, b"route\n"),
-        11 => io::write_all(STDOUT_FILENO, b"unsound\n"),
-        12 => io::write_all(STDOUT_FILENO, b"turn\n"),
-        13 => io::write_all(STDOUT_FILENO, b"train\n"),
-        14 => io::write_all(STDOUT_FILENO, b"already on\n"),
-        15 => io::write_all(STDOUT_FILENO, b"not on\n"),
-        16 => io::write_all(STDOUT_FILENO, b"route number\n"),
-        17 => io::write_all(STDOUT_FILENO, b"no entry\n"),
-        18 => io::write_all(STDOUT_FILENO, b"taken\n"),
-        19 => io::write_all(STDOUT_FILENO, b"too fast\n"),
-        20 => io::write_all(STDOUT_FILENO, b"no exit\n"),
-        21 => io::write_all(STDOUT_FILENO, b"wishes\n"),
-        22 => io::write_all(STDOUT_FILENO, b"buffer\n"),
-        _ => io::write_all(STDOUT_FILENO, b"length\n"),
-    }
+fn say_word(rt: &impl Print, number: u8) -> io::Result<()> {
+    let word = match number {
+        0 => "done",
+        1 => "size",
+        2 => "damaged",
+        3 => "misfiled",
+        4 => "header",
+        5 => "margin",
+        6 => "segment",
+        7 => "joint",
+        8 => "order",
+        9 => "drop",
+        10 => "route",
+        11 => "unsound",
+        12 => "turn",
+        13 => "train",
+        14 => "already on",
+        15 => "not on",
+        16 => "route number",
+        17 => "no entry",
+        18 => "taken",
+        19 => "too fast",
+        20 => "no exit",
+        21 => "wishes",
+        22 => "buffer",
+        _ => "length",
+    };
+    println!(rt; "{word}")
 }
 
 // A line with an answer's number, its place and its word.
-pub fn say_answer(number: u8, place: u16) -> bool {
-    console::say_number(b"", number as u64)
-        && console::say_number(b" ", place as u64)
-        && io::write_all(STDOUT_FILENO, b" ")
-        && say_word(number)
+pub fn say_answer(rt: &impl Print, number: u8, place: u16) -> io::Result<()> {
+    console::say_number(rt, b"", number as u64)?;
+    console::say_number(rt, b" ", place as u64)?;
+    rt.write_all(b" ")?;
+    say_word(rt, number)
 }

@@ -25,17 +25,17 @@ unfolding sums
 loop-i-init c = (omega arith, omega arith, omega arith, refl)
 
 pub overflow_cast-first : goal.overflow_cast-first
-overflow_cast-first c = omega (arith, c.shared_slice_known-1.given c.loop-i.i)
+overflow_cast-first c = omega (arith, c.type_inv.block c.loop-i.i)
 
 pub overflow_add-first : goal.overflow_add-first
-overflow_add-first c = omega (arith, c.shared_slice_known-1.given c.loop-i.i)
+overflow_add-first c = omega (arith, c.type_inv.block c.loop-i.i)
 
 pub overflow_add-second : goal.overflow_add-second
-overflow_add-second c = omega (arith, c.shared_slice_known-1.given c.loop-i.i)
+overflow_add-second c = omega (arith, c.type_inv.block c.loop-i.i)
 
 pub loop-i-preserved : goal.loop-i-preserved
 loop-i-preserved c =
-    let b = c.shared_slice_known-1.given c.loop-i.i in
+    let b = c.type_inv.block c.loop-i.i in
     (omega arith, omega arith, omega arith, sums-more _ c.loop-i.i _ _ (omega arith) c.loop-i.invariant.3)
 
 pub returns : goal.returns

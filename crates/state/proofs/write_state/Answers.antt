@@ -13,4 +13,4 @@ returns c =
     let segments : length c.args.area.allocations ≡ 62 = search rules in
     let numbers : length c.args.area.trains ≡ 24 = search long_of in
     let new = rw c.state_bytes-bytes.ensures at c.put.ensures in
-    (new, rw new (state_back c.args.area segments numbers _))
+    record { buffer_after = new; reads_back = rw new (state_back c.args.area segments numbers _) }

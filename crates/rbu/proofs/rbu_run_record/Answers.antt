@@ -1,0 +1,11 @@
+-- The record is the one that the bytes spell, the run is the script's from that record, and what is written is the state that it comes to.
+use borrow.Author.Rules.{rules}
+use Rattle.rbu.proofs.Laws.{record_told}
+use Rattle.rbu.proofs.rbu_run_record.Goals as goal
+
+pub returns : goal.returns
+returns c =
+    let told =
+    record_told c.args.file.now c.args.script.now c.args.answers.now c.args.state.now c.record_of-before.result c.record_of-before.ensures _
+    c.run-run.ensures.value _ c.run-run.ensures.answers_after _ (c.write_state.ensures.buffer_after, c.write_state.ensures.reads_back) in
+    record { value = told.0; answers_after = told.1.0; state_after = told.1.1.0; continues = told.1.1.1 }
