@@ -13,7 +13,7 @@ use Rattle.lists.proofs.Loops.{every_at, every_all}
 use Rattle.tables.specs.declared.Tables.{Tables}
 use Rattle.tables.specs.Bounds.{most_segments, most_routes, longest_route, Bounds, bounds, smaller_bounds}
 use Rattle.tables.specs.Tables.{first_link, second_link, links_to, segment_of, count_of, segment_at}
-use Rattle.tables.specs.Rules.{header_in, header_ok, links_ok, used_ok, row_ok, segment_ok, matched, joint_in, order_in, gentle, drop_in, number_in, step_in, used_route_ok, route_in, joint_ok, order_ok, drop_ok, route_ok, meets}
+use Rattle.tables.specs.Rules.{header_in, header_ok, links_ok, used_ok, row_ok, segment_ok, matched, joint_in, order_in, drop_in, number_in, step_in, used_route_ok, route_in, joint_ok, order_ok, drop_ok, route_ok, meets}
 use Rattle.tables.specs.Facts.{MeetsWithin, Meets, IsSegment, HeaderWithin, Within, Consistent}
 
 -- what holds of each link of a segment that is not 0 holds of every number that it links to

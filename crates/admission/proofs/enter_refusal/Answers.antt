@@ -4,7 +4,6 @@ use mathlib.Core.Path.{◌≡◌, sym, ◌∙◌}
 use mathlib.Core.Bool.{false, not}
 use native.Mathlib.Omega.{arith}
 use borrow.Author.Tests.{lt-ltb, le-ltb}
-use borrow.Author.Rules.{rules}
 use Rattle.lists.proofs.Refusals.{outside, inside}
 use Rattle.trains.specs.Train.{most_trains, train_at, is_on}
 use Rattle.trains.specs.EnterLeave.{no_train}

@@ -4,7 +4,6 @@ use mathlib.Core.Path.{◌≡◌, sym, ◌∙◌}
 use mathlib.Core.Bool.{false, not, ◌&&◌}
 use native.Mathlib.Omega.{arith}
 use lib.Dec.{leb}
-use borrow.Author.Rules.{rules}
 use Rattle.lists.proofs.Refusals.{outside, inside}
 use Rattle.trains.specs.Train.{longest_train}
 use Rattle.admission.proofs.journey_refusal.Goals as goal

@@ -4,11 +4,9 @@ use mathlib.Core.Bool.{true, false, not, ◌&&◌}
 use native.Mathlib.Omega.{arith}
 use Prim.Native.Nat.{◌<◌}
 use borrow.Author.Tests.{lt-ltb}
-use borrow.Author.Rules.{rules}
 use Rattle.lists.proofs.Cases.{test_fails, test_holds}
 use Rattle.lists.proofs.Refusals.{outside, inside}
 use Rattle.tables.specs.declared.Tables.{Tables}
-use Rattle.trains.specs.declared.Train.{Train}
 use Rattle.trains.specs.Train.{most_trains, train_at, is_on, own_of}
 use Rattle.trains.specs.EnterLeave.{is_exit, is_last, no_train}
 use Rattle.std.proofs.Common.{ap}

@@ -5,8 +5,7 @@ use mathlib.Core.Bool.{false, not}
 use mathlib.Core.List.{List, [], ◌∷◌}
 use Prim.Native.Nat.{ℕ}
 use native.Mathlib.Omega.{arith}
-use borrow.Author.Rules.{rules}
-use Rattle.lists.specs.Tests.{Test, ◌⇒◌, first_of, condition_of}
+use Rattle.lists.specs.Tests.{◌⇒◌, first_of, condition_of}
 use Rattle.lists.proofs.Refusals.{within}
 use Rattle.tables.specs.declared.Tables.{Tables}
 use Rattle.trains.specs.Train.{most_trains, Journey}

@@ -6,7 +6,6 @@ use mathlib.Core.Bool.{true}
 use mathlib.Core.List.{List}
 use lib.ListN.{length}
 use borrow.Author.Tests.{lt-leb, le-leb}
-use borrow.Author.Rules.{rules}
 use Rattle.lists.specs.Words.{every}
 use Rattle.lists.proofs.Cases.{test_fails, test_holds}
 use Rattle.lists.proofs.Numbered.{long_of}

@@ -1,6 +1,5 @@
 -- The number of the first test that holds decides; where none does, the contracts of the grants and of the end of asking make the rest.
 use mathlib.Core.Path.{◌≡◌, refl, sym, ap}
-use borrow.Author.Rules.{rules}
 use Rattle.lists.specs.Tests.{first_of}
 use Rattle.trains.specs.Due.{grant_due}
 use Rattle.area.specs.declared.Area.{Area}

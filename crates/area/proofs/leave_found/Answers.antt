@@ -4,7 +4,6 @@ use mathlib.Core.Path.{◌≡◌, refl, sym, ap}
 use mathlib.Core.Bool.{not}
 use mathlib.Core.List.{List, [], ◌∷◌}
 use native.Mathlib.Omega.{arith}
-use borrow.Author.Rules.{rules}
 use Rattle.lists.specs.Tests.{◌⇒◌, first_of}
 use Rattle.lists.proofs.Refusals.{within}
 use Rattle.tables.specs.declared.Tables.{Tables}

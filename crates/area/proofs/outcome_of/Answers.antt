@@ -1,4 +1,3 @@
-use borrow.Author.Rules.{rules}
 use Rattle.area.proofs.outcome_of.Goals as goal
 
 pub returns : goal.returns

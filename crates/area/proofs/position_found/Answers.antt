@@ -2,7 +2,6 @@
 -- one segment is freed for it.
 use Prim.Native.Nat.{ℕ}
 use mathlib.Core.Path.{◌≡◌, refl, sym, ap, ◌∙◌}
-use borrow.Author.Rules.{rules}
 use Rattle.lists.specs.Tests.{◌⇒◌, first_of}
 use Rattle.trains.specs.Due.{position_due}
 use mathlib.Core.Bool.{true, not}

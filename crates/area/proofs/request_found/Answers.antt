@@ -1,6 +1,5 @@
 -- The number of the first test that holds decides; where none does, the contract of the requests makes the trains.
 use mathlib.Core.Path.{◌≡◌, refl, ap}
-use borrow.Author.Rules.{rules}
 use Rattle.lists.specs.Tests.{first_of}
 use Rattle.trains.specs.Due.{request_due}
 use Rattle.cycle.proofs.Laws.{requested_beside}

@@ -1,6 +1,5 @@
 -- The number of the first test that holds decides; where none does, the contract of the speeds makes the trains.
 use mathlib.Core.Path.{◌≡◌, refl, ap}
-use borrow.Author.Rules.{rules}
 use Rattle.lists.specs.Tests.{first_of}
 use Rattle.cycle.proofs.Laws.{sped_beside}
 use Rattle.area.specs.declared.Area.{Area}

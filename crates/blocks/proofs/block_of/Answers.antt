@@ -4,7 +4,6 @@ use mathlib.Core.Path.{◌≡◌, ap}
 use native.Mathlib.Omega.{arith}
 use lib.ListN.{take, drop, length-take, length-drop}
 use Rattle.file.specs.Blocks.{block}
-use borrow.Author.Rules.{rules}
 use Rattle.blocks.proofs.block_of.Goals as goal
 
 pub returns : goal.returns

@@ -1,13 +1,8 @@
 -- The sums are kept whole, which fits 32 bits for 510 bytes: reduced once at the end they are what reducing at each byte gives.
-use Prim.Native.Nat.{ℕ, ◌+◌, ◌-◌, ◌*◌, ◌≤◌, ◌<◌, ◌%◌}
-use mathlib.Core.List.{List}
-use mathlib.Core.Path.{◌≡◌, refl, ap, ◌∙◌}
-use native.Mathlib.Nat.{mod-add-mod, add-mod-mod}
-use native.Mathlib.Omega.{arith}
-use lib.ListN.{length, take}
-use Rattle.lists.proofs.Loops.{fold_more}
-use Rattle.file.specs.Bytes.{byte_at}
-use Rattle.file.specs.Blocks.{Sums, sums, add_byte}
+use Prim.Native.Nat.{ℕ, ◌-◌, ◌*◌, ◌≤◌, ◌%◌}
+use mathlib.Core.Path.{◌≡◌}
+use lib.ListN.{take}
+use Rattle.file.specs.Blocks.{Sums, sums}
 use Rattle.blocks.proofs.check_of.Given as goal
 
 -- whole sums, reduced

@@ -1,11 +1,7 @@
-use Prim.Native.Nat.{ℕ, ◌+◌, ◌-◌}
+use Prim.Native.Nat.{◌+◌}
 use mathlib.Core.Path.{◌≡◌, ap}
-use mathlib.Core.Bool.{Bool, not}
-use mathlib.Core.List.{List}
-use native.Mathlib.Omega.{arith}
-use borrow.Author.Rules.{rules}
-use Rattle.file.specs.Blocks.{block, block_meets}
-use Rattle.lists.proofs.Loops.{Scanned, scan_begin, scan_over, scan_more, scan_found}
+use mathlib.Core.Bool.{not}
+use Rattle.lists.proofs.Loops.{scan_begin, scan_over, scan_more, scan_found}
 use Rattle.file.proofs.Laws.{by_block, of_block}
 use Rattle.blocks.proofs.first_breaking.Invariants.{ok}
 use Rattle.blocks.proofs.first_breaking.Goals as goal

@@ -1,13 +1,10 @@
 -- A scan of the five blocks by index, each tested as a part of the file.
-use Prim.Native.Nat.{ℕ, ◌+◌, ◌-◌}
-use mathlib.Core.Path.{◌≡◌}
+use Prim.Native.Nat.{ℕ, ◌-◌}
 use mathlib.Core.Bool.{Bool}
 use mathlib.Core.List.{List}
-use native.Mathlib.Omega.{arith}
-use borrow.Author.Rules.{rules}
 use Rattle.file.specs.Blocks.{block, block_meets}
-use Rattle.lists.proofs.Loops.{Scanned, scan_begin, scan_over, scan_more, scan_found}
-use Rattle.file.proofs.Laws.{by_block, of_block}
+use Rattle.lists.proofs.Loops.{Scanned}
+use Rattle.file.proofs.Laws.{by_block}
 use Rattle.blocks.proofs.first_breaking.Given as goal
 
 abbrev pub ok : ℕ → List ℕ → ℕ → Bool

@@ -1,4 +1,3 @@
-use borrow.Author.Rules.{rules}
 use Rattle.file.specs.Blocks.{first_damaged}
 use Rattle.blocks.proofs.first_damaged.Goals as goal
 

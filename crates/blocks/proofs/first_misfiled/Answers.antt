@@ -1,4 +1,3 @@
-use borrow.Author.Rules.{rules}
 use Rattle.file.specs.Blocks.{first_misfiled}
 use Rattle.blocks.proofs.first_misfiled.Goals as goal
 

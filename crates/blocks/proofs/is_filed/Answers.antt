@@ -1,5 +1,4 @@
 -- Kind, block number, the tail's zeros and a route block's zeros are each tested as the definition tests them.
-use borrow.Author.Rules.{rules}
 use Rattle.file.specs.Blocks.{filed}
 use Rattle.blocks.proofs.is_filed.Goals as goal
 

@@ -1,5 +1,4 @@
 -- The check that the bytes give is compared with the one that is stored.
-use borrow.Author.Rules.{rules}
 use Rattle.file.specs.Blocks.{intact}
 use Rattle.blocks.proofs.is_intact.Goals as goal
 

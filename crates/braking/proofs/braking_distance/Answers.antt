@@ -1,5 +1,4 @@
 use native.Mathlib.Omega.{arith}
-use Rattle.braking.specs.KeptSpeed.{KeptSum}
 use Rattle.braking.proofs.Laws.{S-bound}
 use Rattle.braking.proofs.KeptSpeed.{kept_start, kept_turn, kept_last, kept_end, kept_within}
 use Rattle.braking.proofs.braking_distance.Goals as goal

@@ -1,9 +1,6 @@
 -- The invariant is the sentence of document 02, R-5. It holds before the first turn, after a turn and after the last, and at the end it
 -- gives the answer: one law for each.
-use native.Mathlib.Omega.{arith}
 use Rattle.braking.specs.KeptSpeed.{KeptSum}
-use Rattle.braking.proofs.Laws.{S-bound}
-use Rattle.braking.proofs.KeptSpeed.{kept_start, kept_turn, kept_last, kept_end, kept_within}
 use Rattle.braking.proofs.braking_distance.Given as goal
 
 abbrev pub invariant-loop-falling : goal.invariant-loop-falling

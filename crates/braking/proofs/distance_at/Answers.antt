@@ -1,4 +1,3 @@
-use borrow.Author.Rules.{rules}
 use borrow.Author.Tests.{eq-eqb, ne_eqb}
 use Rattle.braking.specs.Distance.{distance_at}
 use Rattle.braking.proofs.distance_at.Goals as goal

@@ -1,13 +1,8 @@
 -- The loop fills the array place by place: each turn finds the segment that one train's rear leaves, 0 where it leaves none.
 use Prim.Native.Nat.{ℕ, ◌-◌}
-use mathlib.Core.Path.{refl}
-use native.Mathlib.Omega.{arith}
-use borrow.Author.Rules.{rules}
-use Rattle.lists.proofs.Numbered.{nth_index, long_of}
-use Rattle.lists.proofs.Loops.{Made, make_begin, make_more, make_over}
+use Rattle.lists.proofs.Loops.{Made}
 use Rattle.trains.specs.declared.Train.{Train}
-use Rattle.trains.specs.Train.{off}
-use Rattle.standing.specs.Spots.{no_spot, spot_at}
+use Rattle.standing.specs.Spots.{spot_at}
 use Rattle.steps.specs.Left.{left_in}
 use Rattle.cycle.proofs.left_all.Given as goal
 

@@ -1,11 +1,8 @@
-use Prim.Native.Nat.{ℕ, ◌+◌, ◌-◌}
-use native.Mathlib.Omega.{arith}
+use Prim.Native.Nat.{◌+◌}
 use Rattle.lists.proofs.Numbered.{nth_index, long_of}
-use Rattle.lists.proofs.Loops.{Made, make_begin, make_more, make_over}
-use Rattle.trains.specs.declared.Train.{Train}
+use Rattle.lists.proofs.Loops.{make_begin, make_more, make_over}
 use Rattle.trains.specs.Train.{off}
-use Rattle.trains.specs.Cycle.{moved_in}
-use Rattle.standing.specs.Spots.{no_spot, spot_at}
+use Rattle.standing.specs.Spots.{no_spot}
 use Rattle.cycle.proofs.moved_all.Goals as goal
 
 pub loop-i-init : goal.loop-i-init

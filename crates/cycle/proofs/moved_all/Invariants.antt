@@ -1,12 +1,9 @@
 -- The loop fills the array place by place: each turn moves one train, which has the room that is required of every train.
-use Prim.Native.Nat.{ℕ, ◌+◌, ◌-◌}
-use native.Mathlib.Omega.{arith}
-use Rattle.lists.proofs.Numbered.{nth_index, long_of}
-use Rattle.lists.proofs.Loops.{Made, make_begin, make_more, make_over}
+use Prim.Native.Nat.{ℕ, ◌-◌}
+use Rattle.lists.proofs.Loops.{Made}
 use Rattle.trains.specs.declared.Train.{Train}
-use Rattle.trains.specs.Train.{off}
 use Rattle.trains.specs.Cycle.{moved_in}
-use Rattle.standing.specs.Spots.{no_spot, spot_at}
+use Rattle.standing.specs.Spots.{spot_at}
 use Rattle.cycle.proofs.moved_all.Given as goal
 
 abbrev pub invariant-loop-i : goal.invariant-loop-i

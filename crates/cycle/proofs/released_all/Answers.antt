@@ -1,4 +1,3 @@
-use borrow.Author.Rules.{rules}
 use Rattle.cycle.proofs.released_all.Goals as goal
 
 pub returns : goal.returns

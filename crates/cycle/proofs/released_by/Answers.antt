@@ -1,9 +1,5 @@
-use Prim.Native.Nat.{ℕ, ◌-◌}
-use native.Mathlib.Omega.{arith}
-use lib.Dec.{eqb}
 use borrow.Author.Rules.{rules}
-use Rattle.lists.specs.Words.{if◌then◌else◌, at}
-use Rattle.lists.proofs.Loops.{Made, make_begin, make_more, make_over}
+use Rattle.lists.proofs.Loops.{make_begin, make_more, make_over}
 use Rattle.cycle.proofs.released_by.Goals as goal
 
 pub loop-i-init : goal.loop-i-init

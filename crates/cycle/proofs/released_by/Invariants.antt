@@ -1,10 +1,8 @@
 -- The loop fills the array place by place: each turn frees one segment where its holder leaves it, and else keeps it.
 use Prim.Native.Nat.{ℕ, ◌-◌}
-use native.Mathlib.Omega.{arith}
 use lib.Dec.{eqb}
-use borrow.Author.Rules.{rules}
 use Rattle.lists.specs.Words.{if◌then◌else◌, at}
-use Rattle.lists.proofs.Loops.{Made, make_begin, make_more, make_over}
+use Rattle.lists.proofs.Loops.{Made}
 use Rattle.cycle.proofs.released_by.Given as goal
 
 abbrev pub invariant-loop-i : goal.invariant-loop-i

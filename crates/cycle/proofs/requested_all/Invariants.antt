@@ -1,11 +1,7 @@
 -- The loop fills the array place by place: each turn makes of one train what request makes of it where it stands.
 use Prim.Native.Nat.{ℕ, ◌-◌}
-use native.Mathlib.Omega.{arith}
-use borrow.Author.Rules.{rules}
-use Rattle.lists.proofs.Numbered.{long_of, nth_index}
-use Rattle.lists.proofs.Loops.{Made, make_begin, make_more, make_over}
+use Rattle.lists.proofs.Loops.{Made}
 use Rattle.trains.specs.declared.Train.{Train}
-use Rattle.trains.specs.Train.{off}
 use Rattle.trains.specs.Cycle.{requested_at}
 use Rattle.standing.specs.Spots.{spot_at}
 use Rattle.cycle.proofs.requested_all.Given as goal

@@ -1,13 +1,7 @@
-use Prim.Native.Nat.{ℕ, ◌-◌}
-use native.Mathlib.Omega.{arith}
-use borrow.Author.Rules.{rules}
-use Rattle.lists.specs.Words.{at}
 use Rattle.lists.proofs.Numbered.{long_of, nth_index}
-use Rattle.lists.proofs.Loops.{Made, make_begin, make_more, make_over}
-use Rattle.trains.specs.declared.Train.{Train}
+use Rattle.lists.proofs.Loops.{make_begin, make_more, make_over}
 use Rattle.trains.specs.Train.{off}
-use Rattle.trains.specs.Cycle.{sped_at}
-use Rattle.standing.specs.Spots.{no_spot, spot_at}
+use Rattle.standing.specs.Spots.{no_spot}
 use Rattle.cycle.proofs.sped_all.Goals as goal
 
 pub loop-i-init : goal.loop-i-init

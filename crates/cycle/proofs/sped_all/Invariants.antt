@@ -1,14 +1,10 @@
 -- The loop fills the array place by place: each turn makes of one train what speed makes of it where it stands.
 use Prim.Native.Nat.{ℕ, ◌-◌}
-use native.Mathlib.Omega.{arith}
-use borrow.Author.Rules.{rules}
 use Rattle.lists.specs.Words.{at}
-use Rattle.lists.proofs.Numbered.{long_of, nth_index}
-use Rattle.lists.proofs.Loops.{Made, make_begin, make_more, make_over}
+use Rattle.lists.proofs.Loops.{Made}
 use Rattle.trains.specs.declared.Train.{Train}
-use Rattle.trains.specs.Train.{off}
 use Rattle.trains.specs.Cycle.{sped_at}
-use Rattle.standing.specs.Spots.{no_spot, spot_at}
+use Rattle.standing.specs.Spots.{spot_at}
 use Rattle.cycle.proofs.sped_all.Given as goal
 
 abbrev pub invariant-loop-i : goal.invariant-loop-i

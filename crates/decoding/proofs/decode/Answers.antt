@@ -1,5 +1,4 @@
 -- Each field is what the reader that fills it gives: the numbers from the places of the header, the arrays from the records.
-use borrow.Author.Rules.{rules}
 use Rattle.decoding.specs.Decoding.{decoded}
 use Rattle.decoding.proofs.decode.Goals as goal
 

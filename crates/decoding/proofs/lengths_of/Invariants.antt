@@ -1,10 +1,7 @@
 -- An array of the records' lengths, computed by number.
 use Prim.Native.Nat.{◌-◌}
-use native.Mathlib.Nat.{add-zero}
-use native.Mathlib.Omega.{arith}
-use borrow.Author.Rules.{rules}
 use Rattle.decoding.specs.Decoding.{length_in}
-use Rattle.lists.proofs.Loops.{Tabled, table_begin, table_more, table_over}
+use Rattle.lists.proofs.Loops.{Tabled}
 use Rattle.decoding.proofs.lengths_of.Given as goal
 
 abbrev pub invariant-loop-i : goal.invariant-loop-i

@@ -1,8 +1,5 @@
-use Prim.Native.Nat.{◌-◌}
-use native.Mathlib.Omega.{arith}
-use borrow.Author.Rules.{rules}
 use Rattle.decoding.specs.Decoding.{limit_in}
-use Rattle.lists.proofs.Loops.{Tabled, table_begin, table_more, table_over}
+use Rattle.lists.proofs.Loops.{table_begin, table_more, table_over}
 use Rattle.decoding.proofs.limits_of.Goals as goal
 
 pub loop-i-init : goal.loop-i-init

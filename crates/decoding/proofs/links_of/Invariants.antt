@@ -1,10 +1,7 @@
 -- The loop computes the array by number: there are two links a record, so entry i, from 0, is link i % 2 of record i / 2 + 1.
-use Prim.Native.Nat.{◌+◌, ◌-◌, ◌/◌}
-use mathlib.Core.Path.{◌≡◌}
-use native.Mathlib.Omega.{arith}
-use borrow.Author.Rules.{rules}
+use Prim.Native.Nat.{◌-◌}
 use Rattle.decoding.specs.Decoding.{link_in}
-use Rattle.lists.proofs.Loops.{Tabled, table_begin, table_more, table_over}
+use Rattle.lists.proofs.Loops.{Tabled}
 use Rattle.decoding.proofs.links_of.Given as goal
 
 abbrev pub invariant-loop-i : goal.invariant-loop-i

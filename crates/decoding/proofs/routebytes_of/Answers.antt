@@ -1,9 +1,8 @@
 use Prim.Native.Nat.{◌+◌, ◌-◌}
 use mathlib.Core.Path.{◌≡◌}
 use native.Mathlib.Omega.{arith}
-use borrow.Author.Rules.{rules}
 use Rattle.decoding.specs.Decoding.{route_byte_in}
-use Rattle.lists.proofs.Loops.{Tabled, table_begin, table_more, table_over}
+use Rattle.lists.proofs.Loops.{table_begin, table_more, table_over}
 use Rattle.decoding.proofs.routebytes_of.Goals as goal
 
 pub loop-i-init : goal.loop-i-init

@@ -1,10 +1,7 @@
 -- The loop computes the array by number: a route block has 480 bytes of records, so byte i stands in block 3 + i / 480, at i % 480.
-use Prim.Native.Nat.{◌+◌, ◌-◌}
-use mathlib.Core.Path.{◌≡◌}
-use native.Mathlib.Omega.{arith}
-use borrow.Author.Rules.{rules}
+use Prim.Native.Nat.{◌-◌}
 use Rattle.decoding.specs.Decoding.{route_byte_in}
-use Rattle.lists.proofs.Loops.{Tabled, table_begin, table_more, table_over}
+use Rattle.lists.proofs.Loops.{Tabled}
 use Rattle.decoding.proofs.routebytes_of.Given as goal
 
 abbrev pub invariant-loop-i : goal.invariant-loop-i

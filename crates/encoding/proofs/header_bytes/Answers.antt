@@ -1,5 +1,4 @@
 -- Each number of two bytes and of four stands as its bytes.
-use borrow.Author.Rules.{rules}
 use Rattle.encoding.proofs.header_bytes.Goals as goal
 
 pub returns : goal.returns

@@ -3,7 +3,6 @@ use Prim.Native.Nat.{ℕ, ◌+◌, ◌-◌, ◌*◌}
 use mathlib.Core.Path.{◌≡◌, ap, ◌∙◌}
 use native.Mathlib.Omega.{arith}
 use lib.ListN.{take, drop, length-take, length-drop}
-use borrow.Author.Rules.{rules}
 use Rattle.encoding.proofs.Rows.{routes_part}
 use Rattle.encoding.proofs.route_rows.Goals as goal
 

@@ -1,5 +1,4 @@
 -- Length and limit stand as their bytes, after them the other fields and five zeros.
-use borrow.Author.Rules.{rules}
 use Rattle.encoding.proofs.segment_bytes.Goals as goal
 
 pub returns : goal.returns

@@ -1,16 +1,12 @@
-use Prim.Native.Nat.{ℕ, suc, ◌+◌, ◌-◌, ◌≤◌}
+use Prim.Native.Nat.{suc, ◌+◌}
 use mathlib.Core.Path.{◌≡◌, refl, sym, ap, ◌∙◌}
-use mathlib.Core.List.{List}
 use native.Mathlib.Numerals.{add-one}
 use native.Mathlib.Omega.{arith}
-use lib.ListN.{length}
 use borrow.Author.Rules.{rules}
-use Rattle.file.specs.Bytes.{put_at}
 use Rattle.file.proofs.Rows.{put_nothing, put_over}
 use Rattle.tables.specs.Tables.{row_of}
 use Rattle.encoding.specs.Encoding.{rows, segment_record}
 use Rattle.encoding.proofs.Rows.{row_put, segments_long}
-use Rattle.encoding.proofs.segment_rows.Invariants.{record-at}
 use Rattle.encoding.proofs.segment_rows.Goals as goal
 
 pub loop-i-init : goal.loop-i-init

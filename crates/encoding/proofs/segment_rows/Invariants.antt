@@ -1,16 +1,11 @@
 -- Each turn puts one record more after those that are there; 31 of them fill the array.
-use Prim.Native.Nat.{ℕ, suc, ◌+◌, ◌-◌, ◌≤◌}
-use mathlib.Core.Path.{◌≡◌, refl, sym, ap, ◌∙◌}
+use Prim.Native.Nat.{ℕ, ◌+◌, ◌-◌, ◌≤◌}
+use mathlib.Core.Path.{◌≡◌}
 use mathlib.Core.List.{List}
-use native.Mathlib.Numerals.{add-one}
-use native.Mathlib.Omega.{arith}
 use lib.ListN.{length}
-use borrow.Author.Rules.{rules}
 use Rattle.file.specs.Bytes.{put_at}
-use Rattle.file.proofs.Rows.{put_nothing, put_over}
 use Rattle.tables.specs.Tables.{row_of}
 use Rattle.encoding.specs.Encoding.{rows, segment_record}
-use Rattle.encoding.proofs.Rows.{row_put, segments_long}
 use Rattle.encoding.proofs.segment_rows.Given as goal
 
 -- record k of the block

@@ -1,6 +1,5 @@
 -- Five blocks are put at their places one after the other.
 use mathlib.Core.Path.{◌∙◌}
-use borrow.Author.Rules.{rules}
 use Rattle.encoding.proofs.Whole.{encoded_put}
 use Rattle.encoding.proofs.write_tables.Goals as goal
 

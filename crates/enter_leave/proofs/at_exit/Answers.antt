@@ -1,4 +1,3 @@
-use borrow.Author.Rules.{rules}
 use Rattle.enter_leave.proofs.at_exit.Goals as goal
 
 pub returns : goal.returns

@@ -4,7 +4,6 @@ use mathlib.Core.Path.{◌≡◌}
 use mathlib.Core.Bool.{true, false}
 use lib.Dec.{eqb, ltb}
 use borrow.Author.Tests.{eq-eqb, ne_eqb, lt-ltb, le-ltb}
-use borrow.Author.Rules.{rules}
 use Rattle.lists.specs.Words.{at}
 use Rattle.enter_leave.proofs.first_segment_refusal.Goals as goal
 use Rattle.enter_leave.proofs.first_segment_refusal.Goals.{Else-entry_u8-gt0, Else-entry_u8-ne1}

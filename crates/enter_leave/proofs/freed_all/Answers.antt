@@ -1,8 +1,5 @@
-use Prim.Native.Nat.{◌-◌}
-use native.Mathlib.Omega.{arith}
 use borrow.Author.Rules.{rules}
-use Rattle.trains.specs.EnterLeave.{freed_by}
-use Rattle.lists.proofs.Loops.{Made, make_begin, make_more, make_over}
+use Rattle.lists.proofs.Loops.{make_begin, make_more, make_over}
 use Rattle.enter_leave.proofs.freed_all.Goals as goal
 
 pub loop-i-init : goal.loop-i-init

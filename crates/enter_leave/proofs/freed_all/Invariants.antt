@@ -1,9 +1,7 @@
 -- The loop fills the array place by place: each turn frees one allocation where it is train t's, and else keeps it.
 use Prim.Native.Nat.{◌-◌}
-use native.Mathlib.Omega.{arith}
-use borrow.Author.Rules.{rules}
 use Rattle.trains.specs.EnterLeave.{freed_by}
-use Rattle.lists.proofs.Loops.{Made, make_begin, make_more, make_over}
+use Rattle.lists.proofs.Loops.{Made}
 use Rattle.enter_leave.proofs.freed_all.Given as goal
 
 abbrev pub invariant-loop-i : goal.invariant-loop-i

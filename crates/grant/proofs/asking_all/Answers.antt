@@ -1,13 +1,6 @@
-use Prim.Native.Nat.{ℕ, ◌-◌}
 use mathlib.Core.Path.{refl}
-use native.Mathlib.Omega.{arith}
-use lib.Dec.{eqb}
-use borrow.Author.Rules.{rules}
-use Rattle.lists.specs.Words.{if◌then◌else◌}
 use Rattle.lists.proofs.Numbered.{long_of}
-use Rattle.lists.proofs.Loops.{Made, make_begin, make_more, make_over}
-use Rattle.trains.specs.declared.Train.{Train}
-use Rattle.trains.specs.Train.{wanted_in}
+use Rattle.lists.proofs.Loops.{make_begin, make_more, make_over}
 use Rattle.grant.proofs.asking_all.Goals as goal
 
 pub loop-i-init : goal.loop-i-init

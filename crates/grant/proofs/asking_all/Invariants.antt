@@ -1,12 +1,8 @@
 -- The loop fills two arrays place by place: each turn finds the segment that one train asks for, and reads its count.
 use Prim.Native.Nat.{ℕ, ◌-◌}
-use mathlib.Core.Path.{refl}
-use native.Mathlib.Omega.{arith}
 use lib.Dec.{eqb}
-use borrow.Author.Rules.{rules}
 use Rattle.lists.specs.Words.{if◌then◌else◌}
-use Rattle.lists.proofs.Numbered.{long_of}
-use Rattle.lists.proofs.Loops.{Made, make_begin, make_more, make_over}
+use Rattle.lists.proofs.Loops.{Made}
 use Rattle.trains.specs.declared.Train.{Train}
 use Rattle.trains.specs.Train.{wanted_in}
 use Rattle.grant.proofs.asking_all.Given as goal

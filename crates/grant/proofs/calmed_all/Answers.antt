@@ -1,11 +1,5 @@
-use Prim.Native.Nat.{◌-◌}
-use mathlib.Core.Path.{◌≡◌}
-use native.Mathlib.Omega.{arith}
-use borrow.Author.Rules.{rules}
 use Rattle.lists.proofs.Numbered.{long_of}
-use Rattle.tables.specs.declared.Tables.{Tables}
-use Rattle.trains.specs.Grant.{calmed}
-use Rattle.lists.proofs.Loops.{Made, make_begin, make_more, make_over}
+use Rattle.lists.proofs.Loops.{make_begin, make_more, make_over}
 use Rattle.grant.proofs.calmed_all.Goals as goal
 
 pub loop-i-init : goal.loop-i-init

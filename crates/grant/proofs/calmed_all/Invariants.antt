@@ -1,12 +1,9 @@
 -- The loop fills the array place by place: each turn ends the asking of one train, whatever tables have the routes that are lent.
 use Prim.Native.Nat.{◌-◌}
 use mathlib.Core.Path.{◌≡◌}
-use native.Mathlib.Omega.{arith}
-use borrow.Author.Rules.{rules}
-use Rattle.lists.proofs.Numbered.{long_of}
 use Rattle.tables.specs.declared.Tables.{Tables}
 use Rattle.trains.specs.Grant.{calmed}
-use Rattle.lists.proofs.Loops.{Made, make_begin, make_more, make_over}
+use Rattle.lists.proofs.Loops.{Made}
 use Rattle.grant.proofs.calmed_all.Given as goal
 
 abbrev pub invariant-loop-i : goal.invariant-loop-i

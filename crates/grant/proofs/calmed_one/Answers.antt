@@ -1,5 +1,4 @@
 -- What it asked for, whether it was granted that, and the count after it make the train of the definition.
-use borrow.Author.Rules.{rules}
 use Rattle.trains.specs.Grant.{asked, calmed}
 use Rattle.grant.proofs.calmed_one.Goals as goal
 

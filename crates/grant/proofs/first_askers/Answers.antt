@@ -1,12 +1,10 @@
-use Prim.Native.Nat.{◌-◌, ◌≤◌}
 use mathlib.Core.Path.{◌≡◌, ap, ◌∙◌}
 use native.Mathlib.Omega.{arith}
 use lib.ListN.{length}
 use borrow.Author.Rules.{rules}
-use Rattle.lists.specs.Words.{tabulate}
 use Rattle.lists.proofs.Numbered.{length_tabulate}
 use Rattle.trains.specs.Train.{most_trains}
-use Rattle.grant.proofs.Askers.{asker_of, askers_begin, askers_more}
+use Rattle.grant.proofs.Askers.{askers_begin, askers_more}
 use Rattle.grant.proofs.first_askers.Goals as goal
 
 pub loop-i-init : goal.loop-i-init

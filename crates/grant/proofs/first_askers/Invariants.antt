@@ -1,13 +1,9 @@
 -- After each turn every segment has, of the trains so far that ask for it, the one that goes before the others.
 use Prim.Native.Nat.{◌-◌, ◌≤◌}
-use mathlib.Core.Path.{◌≡◌, ap, ◌∙◌}
-use native.Mathlib.Omega.{arith}
-use lib.ListN.{length}
-use borrow.Author.Rules.{rules}
+use mathlib.Core.Path.{◌≡◌}
 use Rattle.lists.specs.Words.{tabulate}
-use Rattle.lists.proofs.Numbered.{length_tabulate}
 use Rattle.trains.specs.Train.{most_trains}
-use Rattle.grant.proofs.Askers.{asker_of, askers_begin, askers_more}
+use Rattle.grant.proofs.Askers.{asker_of}
 use Rattle.grant.proofs.first_askers.Given as goal
 
 abbrev pub invariant-loop-i : goal.invariant-loop-i

@@ -1,4 +1,3 @@
-use borrow.Author.Rules.{rules}
 use Rattle.trains.specs.Order.{goes_before}
 use Rattle.grant.proofs.goes_before.Goals as goal
 

@@ -1,10 +1,9 @@
-use Prim.Native.Nat.{ℕ, ◌-◌}
+use Prim.Native.Nat.{ℕ}
 use mathlib.Core.Path.{◌∙◌, ap, sym}
-use native.Mathlib.Omega.{arith}
 use lib.ListN.{get_or}
 use borrow.Author.Rules.{rules}
-use Rattle.lists.specs.Words.{at, ◌or_else◌}
-use Rattle.lists.proofs.Loops.{Made, make_begin, make_more, make_over}
+use Rattle.lists.specs.Words.{◌or_else◌}
+use Rattle.lists.proofs.Loops.{make_begin, make_more, make_over}
 use Rattle.lists.proofs.Numbered.{nth_index}
 use Rattle.grant.proofs.granted_by.Goals as goal
 

@@ -1,12 +1,7 @@
 -- The loop fills the array place by place: each turn settles one segment, which its holder keeps or, if it is free, its first asker gets.
 use Prim.Native.Nat.{ℕ, ◌-◌}
-use mathlib.Core.Path.{◌∙◌, ap, sym}
-use native.Mathlib.Omega.{arith}
-use lib.ListN.{get_or}
-use borrow.Author.Rules.{rules}
 use Rattle.lists.specs.Words.{at, ◌or_else◌}
-use Rattle.lists.proofs.Loops.{Made, make_begin, make_more, make_over}
-use Rattle.lists.proofs.Numbered.{nth_index}
+use Rattle.lists.proofs.Loops.{Made}
 use Rattle.grant.proofs.granted_by.Given as goal
 
 abbrev pub invariant-loop-i : goal.invariant-loop-i

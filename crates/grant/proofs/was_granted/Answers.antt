@@ -1,4 +1,3 @@
-use borrow.Author.Rules.{rules}
 use Rattle.grant.proofs.was_granted.Goals as goal
 
 pub returns : goal.returns

@@ -1,10 +1,8 @@
-use Prim.Native.Nat.{◌+◌, ◌-◌}
+use Prim.Native.Nat.{◌+◌}
 use mathlib.Core.Path.{◌≡◌}
 use mathlib.Core.Bool.{◌&&◌}
-use native.Mathlib.Omega.{arith}
-use borrow.Author.Rules.{rules}
-use Rattle.lists.proofs.Loops.{Scanned, scan_begin, scan_over, scan_more, scan_found}
-use Rattle.tables.specs.Bounds.{most_segments, bounds}
+use Rattle.lists.proofs.Loops.{scan_begin, scan_over, scan_more, scan_found}
+use Rattle.tables.specs.Bounds.{bounds}
 use Rattle.reading.specs.Verdict.{record_ok}
 use Rattle.std.proofs.Common.{ap}
 use Rattle.std.specs.Prelude.{not}

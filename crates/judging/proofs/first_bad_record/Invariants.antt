@@ -1,11 +1,7 @@
 -- A scan of the records, of each of which the code finds what the tables keep and the zeros: together `record_ok`.
 -- in a turn of the loop, after the look at the zeros
-use Prim.Native.Nat.{◌+◌, ◌-◌}
-use mathlib.Core.Path.{◌≡◌}
-use mathlib.Core.Bool.{◌&&◌}
-use native.Mathlib.Omega.{arith}
-use borrow.Author.Rules.{rules}
-use Rattle.lists.proofs.Loops.{Scanned, scan_begin, scan_over, scan_more, scan_found}
+use Prim.Native.Nat.{◌-◌}
+use Rattle.lists.proofs.Loops.{Scanned}
 use Rattle.tables.specs.Bounds.{most_segments, bounds}
 use Rattle.reading.specs.Verdict.{record_ok}
 use Rattle.judging.proofs.first_bad_record.Given as goal

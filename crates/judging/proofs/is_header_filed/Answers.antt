@@ -1,5 +1,4 @@
 -- Version, zero byte and zeros are read in block 0, at the places where the definition has them.
-use borrow.Author.Rules.{rules}
 use Rattle.reading.specs.Verdict.{header_filed}
 use Rattle.judging.proofs.is_header_filed.Goals as goal
 

@@ -1,5 +1,4 @@
 -- Block and start are those of record i + 1, so the bytes that are looked at are the five that end it.
-use borrow.Author.Rules.{rules}
 use Rattle.reading.specs.Verdict.{reserved}
 use Rattle.judging.proofs.is_reserved.Goals as goal
 

@@ -6,7 +6,6 @@ use mathlib.Core.Bool.{◌&&◌}
 use mathlib.Core.List.{List}
 use native.Mathlib.Omega.{arith}
 use lib.ListN.{drop}
-use borrow.Author.Rules.{rules}
 use Rattle.lists.specs.Tests.{first_of}
 use Rattle.lists.proofs.Cases.{facts, test_holds}
 use Rattle.tables.specs.Bounds.{bounds}

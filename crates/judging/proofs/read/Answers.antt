@@ -4,7 +4,6 @@ use mathlib.Core.Path.{refl, ◌∙◌}
 use mathlib.Core.List.{List}
 use lib.ListN.{drop}
 use borrow.Author.Tests.{eq-eqb, ne_eqb}
-use borrow.Author.Rules.{rules}
 use Rattle.decoding.specs.Decoding.{decoded}
 use Rattle.tables.specs.Bounds.{bounds}
 use Rattle.reading.specs.Verdict.{file_tests, table_tests, verdict, reading_of}

@@ -1,4 +1,3 @@
-use borrow.Author.Rules.{rules}
 use Rattle.judging.proofs.refused.Goals as goal
 
 pub returns : goal.returns

@@ -3,7 +3,6 @@ use Prim.Native.Nat.{◌-◌, ◌*◌}
 use mathlib.Core.Path.{◌≡◌}
 use native.Mathlib.Omega.{arith}
 use Rattle.tables.specs.Tables.{count_of}
-use borrow.Author.Rules.{rules}
 use Rattle.lookups.proofs.count_of.Goals as goal
 
 pub returns-then-r-eq0 : goal.returns-then-r-eq0

@@ -1,5 +1,4 @@
 -- Each field is what the look-up that fills it gives.
-use borrow.Author.Rules.{rules}
 use Rattle.lookups.proofs.row_of.Goals as goal
 
 pub returns : goal.returns

@@ -3,7 +3,6 @@ use Prim.Native.Nat.{◌+◌, ◌-◌, ◌*◌}
 use mathlib.Core.Path.{◌≡◌}
 use native.Mathlib.Omega.{arith}
 use Rattle.tables.specs.Tables.{segment_at}
-use borrow.Author.Rules.{rules}
 use Rattle.lookups.proofs.segment_at.Goals as goal
 
 pub returns-then-r-eq0 : goal.returns-then-r-eq0

@@ -1,13 +1,11 @@
-use Prim.Native.Nat.{max, ℕ, ◌+◌, ◌-◌, ◌≤◌}
+use Prim.Native.Nat.{ℕ, ◌+◌, ◌-◌, ◌≤◌}
 use mathlib.Core.Path.{◌≡◌, sym, ◌∙◌}
-use mathlib.Core.Bool.{Bool, true}
+use mathlib.Core.Bool.{Bool}
 use mathlib.Core.List.{List}
 use native.Mathlib.Omega.{arith}
 use native.Mathlib.Nat.{sub_self}
-use borrow.Author.Rules.{rules}
 use borrow.Author.Tests.{eq-eqb, ne_eqb}
 use lib.Dec.{eqb}
-use Rattle.lists.specs.Words.{every}
 use Rattle.lists.proofs.Loops.{every_none, every_more, every_fails}
 use Rattle.file.specs.Bytes.{byte_at, zeros}
 use Rattle.octets.proofs.are_zeros.Invariants.{zeroAt}

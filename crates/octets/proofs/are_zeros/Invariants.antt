@@ -1,16 +1,11 @@
 -- The loop stops at the first byte that is not zero, which makes the test false; where it comes to the end, every byte was zero.
 use Prim.Native.Nat.{max, ℕ, ◌+◌, ◌-◌, ◌≤◌}
-use mathlib.Core.Path.{◌≡◌, sym, ◌∙◌}
+use mathlib.Core.Path.{◌≡◌}
 use mathlib.Core.Bool.{Bool, true}
 use mathlib.Core.List.{List}
-use native.Mathlib.Omega.{arith}
-use native.Mathlib.Nat.{sub_self}
-use borrow.Author.Rules.{rules}
-use borrow.Author.Tests.{eq-eqb, ne_eqb}
 use lib.Dec.{eqb}
 use Rattle.lists.specs.Words.{every}
-use Rattle.lists.proofs.Loops.{every_none, every_more, every_fails}
-use Rattle.file.specs.Bytes.{byte_at, zeros}
+use Rattle.file.specs.Bytes.{byte_at}
 use Rattle.octets.proofs.are_zeros.Given as goal
 
 abbrev pub zeroAt : List ℕ → ℕ → ℕ → Bool

@@ -1,8 +1,4 @@
-use Prim.Native.Nat.{◌-◌}
-use native.Mathlib.Omega.{arith}
-use lib.ListN.{length}
-use borrow.Author.Rules.{rules}
-use Rattle.file.proofs.Rows.{Putting, put_begin, put_more, put_whole, put_full}
+use Rattle.file.proofs.Rows.{put_begin, put_more, put_whole, put_full}
 use Rattle.octets.proofs.put.Goals as goal
 
 pub loop-j-init : goal.loop-j-init

@@ -1,9 +1,7 @@
 -- A copy byte by byte, which ends with the row or with the buffer.
 use Prim.Native.Nat.{◌-◌}
-use native.Mathlib.Omega.{arith}
 use lib.ListN.{length}
-use borrow.Author.Rules.{rules}
-use Rattle.file.proofs.Rows.{Putting, put_begin, put_more, put_whole, put_full}
+use Rattle.file.proofs.Rows.{Putting}
 use Rattle.octets.proofs.put.Given as goal
 
 abbrev pub invariant-loop-j : goal.invariant-loop-j

@@ -1,6 +1,5 @@
 use borrow.Author.Tests.{le-leb, lt-leb}
 use Rattle.tables.specs.Rules.{row_ok}
-use borrow.Author.Rules.{rules}
 use Rattle.records.proofs.row_ok.Goals as goal
 
 pub returns-then-k-n : goal.returns-then-k-n

@@ -1,5 +1,4 @@
 use Rattle.tables.specs.Rules.{used_ok}
-use borrow.Author.Rules.{rules}
 use Rattle.records.proofs.used_ok.Goals as goal
 
 pub returns : goal.returns

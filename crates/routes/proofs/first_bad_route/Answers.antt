@@ -1,8 +1,4 @@
-use Prim.Native.Nat.{◌-◌}
-use native.Mathlib.Omega.{arith}
-use Rattle.lists.proofs.Loops.{Scanned, scan_begin, scan_over, scan_more, scan_found}
-use Rattle.tables.specs.Bounds.{most_routes}
-use Rattle.tables.specs.Rules.{route_in}
+use Rattle.lists.proofs.Loops.{scan_begin, scan_over, scan_more, scan_found}
 use Rattle.std.proofs.Common.{ap}
 use Rattle.std.specs.Prelude.{not}
 use Rattle.routes.proofs.first_bad_route.Goals as goal

@@ -1,7 +1,6 @@
 -- A scan of the route records: rule 10 holds of those up to r.
 use Prim.Native.Nat.{◌-◌}
-use native.Mathlib.Omega.{arith}
-use Rattle.lists.proofs.Loops.{Scanned, scan_begin, scan_over, scan_more, scan_found}
+use Rattle.lists.proofs.Loops.{Scanned}
 use Rattle.tables.specs.Bounds.{most_routes}
 use Rattle.tables.specs.Rules.{route_in}
 use Rattle.routes.proofs.first_bad_route.Given as goal

@@ -1,15 +1,11 @@
 -- Each place up to p stands up to the count or is zero: so where the loop begins, at the count, and after each place found zero.
-use Prim.Native.Nat.{◌+◌, ◌-◌, ◌≤◌}
-use mathlib.Core.Path.{◌≡◌, sym, ◌∙◌}
+use Prim.Native.Nat.{◌-◌, ◌≤◌}
+use mathlib.Core.Path.{◌≡◌}
 use mathlib.Core.Bool.{true}
-use native.Mathlib.Omega.{arith}
-use borrow.Author.Rules.{rules}
 use Rattle.lists.specs.Words.{every}
-use Rattle.lists.proofs.Loops.{every_more, every_fails, every_at, every_all}
 use Rattle.tables.specs.Bounds.{longest_route}
 use Rattle.tables.specs.Tables.{count_of}
 use Rattle.tables.specs.Rules.{rest_in}
-use Rattle.routes.proofs.Routes.{rest_upto, rest_zero, rest_other}
 use Rattle.routes.proofs.rest_zero.Given as goal
 
 abbrev pub invariant-loop-p : goal.invariant-loop-p

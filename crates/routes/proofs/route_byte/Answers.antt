@@ -2,7 +2,6 @@
 use Prim.Native.Nat.{◌+◌, ◌-◌, ◌*◌}
 use mathlib.Core.Path.{◌≡◌, sym}
 use native.Mathlib.Omega.{arith}
-use borrow.Author.Rules.{rules}
 use Rattle.lists.proofs.Numbered.{nth_in}
 use Rattle.tables.specs.Tables.{segment_at}
 use Rattle.routes.proofs.route_byte.Goals as goal

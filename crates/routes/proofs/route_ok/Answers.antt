@@ -1,4 +1,3 @@
-use borrow.Author.Rules.{rules}
 use borrow.Author.Tests.{le-leb, lt-leb}
 use Rattle.tables.specs.Rules.{route_in}
 use Rattle.routes.proofs.route_ok.Goals as goal

@@ -1,10 +1,9 @@
-use Prim.Native.Nat.{◌+◌, ◌-◌, ◌≤◌}
+use Prim.Native.Nat.{◌+◌, ◌-◌}
 use mathlib.Core.Path.{◌≡◌, sym, ◌∙◌}
 use native.Mathlib.Omega.{arith}
-use Rattle.lists.specs.Words.{every}
 use Rattle.lists.proofs.Loops.{every_none, every_next}
 use Rattle.tables.specs.Bounds.{longest_route}
-use Rattle.routes.proofs.Routes.{blank_in, blank_record}
+use Rattle.routes.proofs.Routes.{blank_record}
 use Rattle.routes.proofs.unused_route_ok.Goals as goal
 
 pub loop-p-init : goal.loop-p-init

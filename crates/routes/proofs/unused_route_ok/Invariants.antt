@@ -1,11 +1,9 @@
 -- `blank` says whether the first p bytes of the record are zero.
 use Prim.Native.Nat.{◌+◌, ◌-◌, ◌≤◌}
-use mathlib.Core.Path.{◌≡◌, sym, ◌∙◌}
-use native.Mathlib.Omega.{arith}
+use mathlib.Core.Path.{◌≡◌}
 use Rattle.lists.specs.Words.{every}
-use Rattle.lists.proofs.Loops.{every_none, every_next}
 use Rattle.tables.specs.Bounds.{longest_route}
-use Rattle.routes.proofs.Routes.{blank_in, blank_record}
+use Rattle.routes.proofs.Routes.{blank_in}
 use Rattle.routes.proofs.unused_route_ok.Given as goal
 
 abbrev pub invariant-loop-p : goal.invariant-loop-p

@@ -1,9 +1,7 @@
-use Prim.Native.Nat.{◌-◌}
 use native.Mathlib.Omega.{arith}
-use borrow.Author.Rules.{rules}
 use borrow.Author.Tests.{not-false}
 use Rattle.lists.proofs.Cases.{test_fails, test_holds, facts}
-use Rattle.routes.proofs.Routes.{bad_count, bad_rest, Counted, Walked, walk_begin, first_fails, walk_more, number_fails, step_fails, walk_over}
+use Rattle.routes.proofs.Routes.{bad_count, bad_rest, Counted, walk_begin, first_fails, walk_more, number_fails, step_fails, walk_over}
 use Rattle.std.proofs.Common.{ap}
 use Rattle.std.specs.Prelude.{not}
 use Rattle.routes.proofs.used_route_ok.Goals as goal

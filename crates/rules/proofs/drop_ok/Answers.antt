@@ -1,6 +1,5 @@
 -- The code asks what the rule asks of each of the two next links: that it is none or the limit there is lower by at most `b`.
 use Rattle.tables.specs.Rules.{drop_in}
-use borrow.Author.Rules.{rules}
 use Rattle.rules.proofs.drop_ok.Goals as goal
 
 pub returns : goal.returns

@@ -1,10 +1,4 @@
-use Prim.Native.Nat.{ℕ, ◌-◌}
-use native.Mathlib.Omega.{arith}
-use borrow.Author.Rules.{rules}
-use Rattle.lists.proofs.Loops.{Scanned, scan_begin, scan_over, scan_more, scan_found}
-use Rattle.tables.specs.Bounds.{most_segments, bounds}
-use Rattle.tables.specs.Tables.{row_of}
-use Rattle.tables.specs.Rules.{row_ok}
+use Rattle.lists.proofs.Loops.{scan_begin, scan_over, scan_more, scan_found}
 use Rattle.std.proofs.Common.{ap}
 use Rattle.std.specs.Prelude.{not}
 use Rattle.rules.proofs.first_bad_segment.Goals as goal

@@ -1,8 +1,6 @@
 -- A scan of the rows: rule 6 holds of what is kept of the records up to k.
 use Prim.Native.Nat.{ℕ, ◌-◌}
-use native.Mathlib.Omega.{arith}
-use borrow.Author.Rules.{rules}
-use Rattle.lists.proofs.Loops.{Scanned, scan_begin, scan_over, scan_more, scan_found}
+use Rattle.lists.proofs.Loops.{Scanned}
 use Rattle.tables.specs.Bounds.{most_segments, bounds}
 use Rattle.tables.specs.Tables.{row_of}
 use Rattle.tables.specs.Rules.{row_ok}

@@ -1,8 +1,4 @@
-use Prim.Native.Nat.{◌-◌}
-use native.Mathlib.Omega.{arith}
-use borrow.Author.Rules.{rules}
-use Rattle.lists.proofs.Loops.{Scanned, scan_begin, scan_over, scan_more, scan_found}
-use Rattle.rules.specs.Scan.{segment_meets}
+use Rattle.lists.proofs.Loops.{scan_begin, scan_over, scan_more, scan_found}
 use Rattle.std.proofs.Common.{ap}
 use Rattle.std.specs.Prelude.{not}
 use Rattle.rules.proofs.first_breaking.Goals as goal

@@ -1,8 +1,6 @@
 -- A scan of the segments: the rule holds of those up to s.
 use Prim.Native.Nat.{◌-◌}
-use native.Mathlib.Omega.{arith}
-use borrow.Author.Rules.{rules}
-use Rattle.lists.proofs.Loops.{Scanned, scan_begin, scan_over, scan_more, scan_found}
+use Rattle.lists.proofs.Loops.{Scanned}
 use Rattle.rules.specs.Scan.{segment_meets}
 use Rattle.rules.proofs.first_breaking.Given as goal
 

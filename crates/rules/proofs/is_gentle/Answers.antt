@@ -1,4 +1,3 @@
-use borrow.Author.Rules.{rules}
 use Rattle.rules.proofs.is_gentle.Goals as goal
 
 pub returns : goal.returns

@@ -1,5 +1,4 @@
 use Rattle.tables.specs.Rules.{matched}
-use borrow.Author.Rules.{rules}
 use Rattle.rules.proofs.is_matched.Goals as goal
 
 pub returns : goal.returns

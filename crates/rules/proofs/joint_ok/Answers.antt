@@ -1,6 +1,5 @@
 -- The code asks what the rule asks of each of the four links: that a next link has its previous link, and a previous link its next.
 use Rattle.tables.specs.Rules.{joint_in}
-use borrow.Author.Rules.{rules}
 use Rattle.rules.proofs.joint_ok.Goals as goal
 
 pub returns : goal.returns

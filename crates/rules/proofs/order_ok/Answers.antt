@@ -1,6 +1,5 @@
 -- The code asks what the rule asks of each of the two next links: that it is none or greater than the segment.
 use Rattle.tables.specs.Rules.{order_in}
-use borrow.Author.Rules.{rules}
 use Rattle.rules.proofs.order_ok.Goals as goal
 
 pub returns : goal.returns

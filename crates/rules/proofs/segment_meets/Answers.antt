@@ -1,5 +1,4 @@
 -- The rule's number decides which of the three tests it is.
-use borrow.Author.Rules.{rules}
 use borrow.Author.Tests.{eq-eqb, ne_eqb}
 use Rattle.rules.proofs.segment_meets.Goals as goal
 

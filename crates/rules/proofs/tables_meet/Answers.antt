@@ -2,7 +2,6 @@
 use mathlib.Core.Path.{◌≡◌}
 use mathlib.Core.Bool.{true}
 use native.Mathlib.Omega.{arith}
-use borrow.Author.Rules.{rules}
 use Rattle.lists.proofs.Cases.{facts, test_fails, test_holds}
 use Rattle.lists.proofs.Loops.{every_scan}
 use Rattle.tables.specs.Bounds.{bounds}

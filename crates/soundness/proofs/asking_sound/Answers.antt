@@ -1,4 +1,3 @@
-use borrow.Author.Rules.{rules}
 use Rattle.trains.specs.Sound.{asking_sound}
 use Rattle.soundness.proofs.asking_sound.Goals as goal
 

@@ -2,7 +2,6 @@
 -- S(speed) ≤ `d`, and of one that is closer the way is worked out.
 use Prim.Native.Nat.{◌+◌, ◌≤◌}
 use native.Mathlib.Omega.{arith}
-use borrow.Author.Rules.{rules}
 use borrow.Author.Tests.{lt-ltb}
 use Rattle.tables.specs.Tables.{distance_in}
 use Rattle.trains.specs.Sound.{to_run, braking_sound}

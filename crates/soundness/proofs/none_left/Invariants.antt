@@ -1,14 +1,10 @@
 -- So far none is left exactly where every segment so far is free.
 use Prim.Native.Nat.{ℕ, ◌-◌, ◌≤◌}
-use mathlib.Core.Path.{◌≡◌, sym}
+use mathlib.Core.Path.{◌≡◌}
 use mathlib.Core.Bool.{Bool}
 use mathlib.Core.List.{List}
-use native.Mathlib.Omega.{arith}
 use lib.Dec.{eqb}
-use borrow.Author.Rules.{rules}
 use Rattle.lists.specs.Words.{at, every}
-use Rattle.lists.proofs.Loops.{every_none, every_next}
-use Rattle.lists.proofs.Numbered.{nth_index}
 use Rattle.tables.specs.Bounds.{most_segments}
 use Rattle.soundness.proofs.none_left.Given as goal
 

@@ -1,6 +1,5 @@
 -- S(speed) is never below the speed, so with speed due the difference can be taken, and it is B(speed); with another step due S(speed) stays.
 use native.Mathlib.Omega.{arith}
-use borrow.Author.Rules.{rules}
 use borrow.Author.Tests.{eq-eqb, ne_eqb}
 use Rattle.braking.proofs.Laws.{S-above}
 use Rattle.trains.specs.Sound.{to_run}

@@ -1,18 +1,11 @@
-use Prim.Native.Nat.{ℕ, ◌+◌, ◌-◌, ◌≤◌}
+use Prim.Native.Nat.{◌+◌}
 use mathlib.Core.Path.{◌≡◌, sym}
-use mathlib.Core.Bool.{Bool, true}
-use mathlib.Core.List.{List}
 use native.Mathlib.Omega.{arith}
-use Rattle.lists.specs.Words.{every}
 use Rattle.lists.proofs.Cases.{test_fails, test_holds}
 use Rattle.lists.proofs.Loops.{every_none, every_more, every_fails}
 use Rattle.lists.proofs.Numbered.{nth_index}
-use Rattle.tables.specs.Tables.{distance_in}
-use Rattle.trains.specs.declared.Train.{Train}
-use Rattle.trains.specs.declared.Spot.{Spot}
-use Rattle.trains.specs.Train.{most_trains, off, train_at}
-use Rattle.trains.specs.Sound.{stands_sound}
-use Rattle.standing.specs.Spots.{no_spot, spot_at}
+use Rattle.trains.specs.Train.{most_trains, off}
+use Rattle.standing.specs.Spots.{no_spot}
 use Rattle.std.proofs.Common.{ap}
 use Rattle.std.specs.Prelude.{not}
 use Rattle.soundness.proofs.trains_sound.Invariants.{sound}

@@ -1,20 +1,16 @@
 -- The scan stops at the first train that is not sound where it stands.
 -- the turn of the loop that a test ends, and what it found
-use Prim.Native.Nat.{ℕ, ◌+◌, ◌-◌, ◌≤◌}
-use mathlib.Core.Path.{◌≡◌, sym}
+use Prim.Native.Nat.{ℕ, ◌-◌, ◌≤◌}
+use mathlib.Core.Path.{◌≡◌}
 use mathlib.Core.Bool.{Bool, true}
 use mathlib.Core.List.{List}
-use native.Mathlib.Omega.{arith}
 use Rattle.lists.specs.Words.{every}
-use Rattle.lists.proofs.Cases.{test_fails, test_holds}
-use Rattle.lists.proofs.Loops.{every_none, every_more, every_fails}
-use Rattle.lists.proofs.Numbered.{nth_index}
 use Rattle.tables.specs.Tables.{distance_in}
 use Rattle.trains.specs.declared.Train.{Train}
 use Rattle.trains.specs.declared.Spot.{Spot}
-use Rattle.trains.specs.Train.{most_trains, off, train_at}
+use Rattle.trains.specs.Train.{most_trains, train_at}
 use Rattle.trains.specs.Sound.{stands_sound}
-use Rattle.standing.specs.Spots.{no_spot, spot_at}
+use Rattle.standing.specs.Spots.{spot_at}
 use Rattle.soundness.proofs.trains_sound.Given as goal
 
 abbrev pub sound : (R b due : ℕ) → List Spot → List Train → ℕ → Bool

@@ -1,16 +1,14 @@
 use Prim.Native.Nat.{ℕ, ◌+◌, ◌-◌, ◌≤◌}
 use mathlib.Core.Path.{◌≡◌, sym}
 use mathlib.Core.Logic.{inl}
-use mathlib.Core.Bool.{Bool, true, ◌||◌}
+use mathlib.Core.Bool.{true}
 use mathlib.Core.List.{List}
 use native.Mathlib.Omega.{arith}
-use lib.Dec.{ltb, eqb}
-use borrow.Author.Rules.{rules}
+use lib.Dec.{ltb}
 use borrow.Author.Tests.{lt-ltb, le-ltb}
-use Rattle.lists.specs.Words.{at, every}
-use Rattle.lists.proofs.Cases.{cases, either_yes, test_fails, test_holds}
+use Rattle.lists.specs.Words.{every}
+use Rattle.lists.proofs.Cases.{either_yes, test_fails, test_holds}
 use Rattle.lists.proofs.Loops.{every_more, every_fails, every_all, every_at}
-use Rattle.tables.specs.Tables.{segment_at}
 use Rattle.std.proofs.Common.{ap}
 use Rattle.std.specs.Prelude.{not}
 use Rattle.standing.proofs.all_held.Invariants.{ok}

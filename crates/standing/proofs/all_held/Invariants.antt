@@ -1,16 +1,10 @@
 -- The walk begins before the rear's place, up to where nothing is asked; the first place that is not allocated to the train ends it.
 use Prim.Native.Nat.{ℕ, ◌+◌, ◌-◌, ◌≤◌}
-use mathlib.Core.Path.{◌≡◌, sym}
-use mathlib.Core.Logic.{inl}
+use mathlib.Core.Path.{◌≡◌}
 use mathlib.Core.Bool.{Bool, true, ◌||◌}
 use mathlib.Core.List.{List}
-use native.Mathlib.Omega.{arith}
 use lib.Dec.{ltb, eqb}
-use borrow.Author.Rules.{rules}
-use borrow.Author.Tests.{lt-ltb, le-ltb}
 use Rattle.lists.specs.Words.{at, every}
-use Rattle.lists.proofs.Cases.{cases, either_yes, test_fails, test_holds}
-use Rattle.lists.proofs.Loops.{every_more, every_fails, every_all, every_at}
 use Rattle.tables.specs.Tables.{segment_at}
 use Rattle.standing.proofs.all_held.Given as goal
 

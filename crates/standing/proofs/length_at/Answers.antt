@@ -1,4 +1,3 @@
-use borrow.Author.Rules.{rules}
 use Rattle.standing.proofs.length_at.Goals as goal
 
 pub returns : goal.returns

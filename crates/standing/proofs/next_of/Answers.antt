@@ -1,7 +1,6 @@
 -- A place below the route's count has a next one, whose segment is the next; from the count on there is none.
 use borrow.Author.Tests.{lt-ltb, le-ltb}
 use Rattle.trains.specs.Train.{next_in}
-use borrow.Author.Rules.{rules}
 use Rattle.standing.proofs.next_of.Goals as goal
 
 pub returns-then-place-count_of : goal.returns-then-place-count_of

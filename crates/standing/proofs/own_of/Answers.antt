@@ -1,5 +1,4 @@
 use Rattle.trains.specs.Train.{own_in}
-use borrow.Author.Rules.{rules}
 use Rattle.standing.proofs.own_of.Goals as goal
 
 pub returns : goal.returns

@@ -1,5 +1,4 @@
 -- Each field is what the look-up that fills it gives.
-use borrow.Author.Rules.{rules}
 use Rattle.trains.specs.Train.{holds_all_in}
 use Rattle.standing.proofs.spot_of.Goals as goal
 

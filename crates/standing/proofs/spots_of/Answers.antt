@@ -1,14 +1,10 @@
-use Prim.Native.Nat.{ℕ, ◌+◌, ◌-◌}
+use Prim.Native.Nat.{ℕ, ◌+◌}
 use mathlib.Core.Path.{◌≡◌, sym, ◌∙◌}
-use native.Mathlib.Omega.{arith}
 use lib.ListN.{get_or, replicate, length-replicate}
-use borrow.Author.Rules.{rules}
-use Rattle.lists.specs.Words.{at}
-use Rattle.lists.proofs.Cases.{cases}
 use Rattle.lists.proofs.Numbered.{long_of, nth_index, nth_replicate}
-use Rattle.lists.proofs.Loops.{Made, make_begin, make_more, make_keep, make_over}
+use Rattle.lists.proofs.Loops.{make_begin, make_more, make_keep, make_over}
 use Rattle.trains.specs.Train.{off}
-use Rattle.standing.specs.Spots.{no_spot, stands_in}
+use Rattle.standing.specs.Spots.{no_spot}
 use Rattle.trains.proofs.Laws.{train_off, train_on}
 use Rattle.standing.proofs.spots_of.Goals as goal
 use Rattle.standing.proofs.spots_of.Goals.{then-x-ne0, else-x-ne0}

@@ -1,16 +1,9 @@
 -- The array starts with the spots of trains off; each turn makes the spot of one train on, and leaves that of a train off as it is.
-use Prim.Native.Nat.{ℕ, ◌+◌, ◌-◌}
-use mathlib.Core.Path.{◌≡◌, sym, ◌∙◌}
-use native.Mathlib.Omega.{arith}
-use lib.ListN.{get_or, replicate, length-replicate}
-use borrow.Author.Rules.{rules}
+use Prim.Native.Nat.{◌-◌}
+use lib.ListN.{replicate}
 use Rattle.lists.specs.Words.{at}
-use Rattle.lists.proofs.Cases.{cases}
-use Rattle.lists.proofs.Numbered.{long_of, nth_index, nth_replicate}
-use Rattle.lists.proofs.Loops.{Made, make_begin, make_more, make_keep, make_over}
-use Rattle.trains.specs.Train.{off}
+use Rattle.lists.proofs.Loops.{Made}
 use Rattle.standing.specs.Spots.{no_spot, stands_in}
-use Rattle.trains.proofs.Laws.{train_off, train_on}
 use Rattle.standing.proofs.spots_of.Given as goal
 
 abbrev pub invariant-loop-i : goal.invariant-loop-i

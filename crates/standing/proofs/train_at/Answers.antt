@@ -3,7 +3,6 @@ use mathlib.Core.Path.{◌≡◌, sym, ◌∙◌}
 use native.Mathlib.Omega.{arith}
 use lib.ListN.{length}
 use Rattle.lists.proofs.Numbered.{nth_zero, nth_in, nth_out, long_of}
-use borrow.Author.Rules.{rules}
 use Rattle.standing.proofs.train_at.Goals as goal
 
 pub returns-then-k-eq0 : goal.returns-then-k-eq0

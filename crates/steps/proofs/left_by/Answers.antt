@@ -1,5 +1,4 @@
 use mathlib.Core.Path.{sym, ◌∙◌}
-use borrow.Author.Rules.{rules}
 use borrow.Author.Tests.{eq-eqb, ne_eqb}
 use Rattle.trains.proofs.Laws.{train_off, train_on}
 use Rattle.steps.specs.Left.{left_in}

@@ -6,7 +6,6 @@ use mathlib.Core.Bool.{true, and-eq-true_iff}
 use native.Mathlib.Omega.{arith}
 use lib.Dec.{leb}
 use borrow.Author.Tests.{leb-true}
-use borrow.Author.Rules.{rules}
 use Rattle.trains.specs.declared.Train.{Train}
 use Rattle.trains.specs.Train.{is_on}
 use Rattle.trains.specs.Cycle.{moves_in, moved_in}

@@ -1,4 +1,3 @@
-use borrow.Author.Rules.{rules}
 use Rattle.trains.specs.Cycle.{moves_in}
 use Rattle.steps.proofs.moves_on.Goals as goal
 

@@ -1,5 +1,4 @@
 -- A near train without next takes low; of any other the wish is cut to the upper end and then raised to low, as the definition has it.
-use borrow.Author.Rules.{rules}
 use Rattle.trains.specs.Cycle.{new_speed}
 use Rattle.steps.proofs.new_speed.Goals as goal
 

@@ -1,5 +1,4 @@
 use borrow.Author.Tests.{eq-eqb, ne_eqb}
-use borrow.Author.Rules.{rules}
 use Rattle.steps.proofs.released_one.Goals as goal
 
 pub returns-then-entry_u8-s : goal.returns-then-entry_u8-s

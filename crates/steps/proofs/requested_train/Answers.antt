@@ -1,4 +1,3 @@
-use borrow.Author.Rules.{rules}
 use Rattle.trains.proofs.Laws.{train_off, train_on}
 use Rattle.steps.proofs.requested_train.Goals as goal
 

@@ -1,4 +1,3 @@
-use borrow.Author.Rules.{rules}
 use Rattle.steps.proofs.upper_end.Goals as goal
 
 pub returns-then-spot : goal.returns-then-spot

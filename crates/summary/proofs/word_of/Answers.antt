@@ -1,9 +1,7 @@
 use native.Mathlib.Omega.{arith}
 use borrow.Author.Rules.{rules}
 use mathlib.Core.Path.{◌≡◌}
-use Prim.Native.Nat.{◌≤◌}
-use lib.ListN.{length, drop}
-use Rattle.summary.specs.Word.{word_of}
+use lib.ListN.{length}
 use Rattle.summary.proofs.Laws.{bit_small, word_begin, word_step, word_over, word_fits}
 use Rattle.summary.proofs.word_of.Goals as goal
 

@@ -1,11 +1,8 @@
 -- The segments go in from the highest down, a doubling and a bit for each, so the word is that of the segments taken so far and fits 62 bits.
-use native.Mathlib.Omega.{arith}
-use borrow.Author.Rules.{rules}
 use mathlib.Core.Path.{◌≡◌}
 use Prim.Native.Nat.{◌≤◌}
-use lib.ListN.{length, drop}
+use lib.ListN.{drop}
 use Rattle.summary.specs.Word.{word_of}
-use Rattle.summary.proofs.Laws.{bit_small, word_begin, word_step, word_over, word_fits}
 use Rattle.summary.proofs.word_of.Given as goal
 
 abbrev pub invariant-loop-i : goal.invariant-loop-i

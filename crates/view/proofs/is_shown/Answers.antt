@@ -1,4 +1,3 @@
-use borrow.Author.Rules.{rules}
 use Rattle.view.proofs.View.{shown_by}
 use Rattle.view.proofs.is_shown.Goals as goal
 

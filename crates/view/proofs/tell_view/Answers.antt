@@ -1,4 +1,3 @@
-use borrow.Author.Rules.{rules}
 use Rattle.view.proofs.tell_view.Goals as goal
 
 pub returns : goal.returns

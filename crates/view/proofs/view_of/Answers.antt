@@ -3,7 +3,6 @@ use Prim.Native.Nat.{◌+◌, ◌-◌}
 use mathlib.Core.Path.{◌≡◌, sym, ◌∙◌}
 use mathlib.Core.Bool.{true}
 use native.Mathlib.Omega.{arith}
-use borrow.Author.Rules.{rules}
 use Rattle.lists.proofs.Cases.{test_fails, test_holds}
 use Rattle.view.specs.View.{start_in_file, shown}
 use Rattle.view.proofs.View.{shown_facts, view_on, view_off}

@@ -1,5 +1,4 @@
 use mathlib.Core.Path.{refl, ◌∙◌}
-use borrow.Author.Rules.{rules}
 use Rattle.trains.specs.Train.{Journey}
 use Rattle.area.specs.Calls.{enter_tests, after_enter, enter_call}
 use Rattle.area.proofs.Laws.{outcome_by_lem}

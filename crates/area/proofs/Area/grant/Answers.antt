@@ -1,5 +1,4 @@
 use mathlib.Core.Path.{refl, ◌∙◌}
-use borrow.Author.Rules.{rules}
 use Rattle.trains.specs.Due.{grant_due}
 use Rattle.area.specs.Calls.{step_tests, after_grant, grant_call}
 use Rattle.area.proofs.Laws.{outcome_by_lem}

@@ -1,5 +1,4 @@
 use mathlib.Core.Path.{refl, ◌∙◌}
-use borrow.Author.Rules.{rules}
 use Rattle.area.specs.Calls.{leave_tests, after_leave, leave_call}
 use Rattle.area.proofs.Laws.{outcome_by_lem}
 use Rattle.area.proofs.Area.leave.Goals as goal

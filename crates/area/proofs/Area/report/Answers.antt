@@ -1,4 +1,3 @@
-use borrow.Author.Rules.{rules}
 use Rattle.lists.proofs.Cases.{test_fails, test_holds}
 use Rattle.area.specs.Calls.{reported}
 use Rattle.std.proofs.Common.{ap}

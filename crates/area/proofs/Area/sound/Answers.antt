@@ -1,5 +1,4 @@
 use mathlib.Core.Path.{ap}
-use borrow.Author.Rules.{rules}
 use Rattle.area.specs.declared.Examined.{Examined}
 use Rattle.area.proofs.Area.sound.Goals as goal
 

@@ -1,5 +1,4 @@
 use mathlib.Core.Path.{refl, ◌∙◌}
-use borrow.Author.Rules.{rules}
 use Rattle.area.specs.Calls.{speed_tests, after_speed, speed_call}
 use Rattle.area.proofs.Laws.{outcome_by_lem}
 use Rattle.area.proofs.Area.speed.Goals as goal

@@ -1,6 +1,5 @@
 -- The tests in their order; where none holds, the file of the tables is put over the whole buffer.
 use mathlib.Core.Path.{refl, sym, ◌∙◌}
-use borrow.Author.Rules.{rules}
 use borrow.Author.Tests.{eq-eqb, ne_eqb}
 use Rattle.lists.proofs.Cases.{test_fails, test_holds}
 use Rattle.file.specs.Layout.{file_size}
