@@ -4,7 +4,6 @@ use mathlib.Core.Path.{◌≡◌, refl, sym, ap, ◌∙◌}
 use mathlib.Core.List.{List, []}
 use native.Mathlib.Nat.{add_assoc, zero-add}
 use native.Mathlib.Omega.{arith}
-use lib.ListN.{length}
 use Rattle.lists.specs.Words.{at}
 use Rattle.lists.proofs.Cases.{cases, eq_or_ne}
 use Rattle.lists.proofs.Numbered.{nth_in, table_back}

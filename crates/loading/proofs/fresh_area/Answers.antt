@@ -1,4 +1,3 @@
-use borrow.Author.Rules.{rules}
 use Rattle.loading.specs.Load.{fresh}
 use Rattle.loading.proofs.fresh_area.Goals as goal
 

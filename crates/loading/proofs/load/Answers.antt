@@ -1,4 +1,3 @@
-use borrow.Author.Rules.{rules}
 use Rattle.loading.proofs.Loading.{loaded_by_reading}
 use Rattle.loading.proofs.load.Goals as goal
 

@@ -1,6 +1,5 @@
 use mathlib.Core.Path.{◌≡◌, refl, sym, ap, ◌∙◌}
 use lib.ListN.{length}
-use borrow.Author.Rules.{rules}
 use Rattle.lists.proofs.Numbered.{long_of}
 use Rattle.trains.specs.Train.{most_trains}
 use Rattle.area.specs.declared.Examined.{Examined}

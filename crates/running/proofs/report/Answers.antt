@@ -1,5 +1,4 @@
 use mathlib.Core.Path.{ap, ◌∙◌}
-use borrow.Author.Rules.{rules}
 use Rattle.area.specs.declared.Report.{Report}
 use Rattle.answers.specs.Answers.{number_of}
 use Rattle.running.proofs.report.Goals as goal

@@ -1,5 +1,4 @@
 use mathlib.Core.Path.{refl}
-use borrow.Author.Rules.{rules}
 use Rattle.separation.specs.Calls.{called, Speed}
 use Rattle.kept.proofs.Laws.{answered}
 use Rattle.running.proofs.speed.Goals as goal

@@ -2,7 +2,6 @@
 -- the rest.
 use native.Mathlib.Omega.{arith}
 use mathlib.Core.Path.{sym, ◌∙◌}
-use borrow.Author.Rules.{rules}
 use borrow.Author.Tests.{ne_eqb}
 use Rattle.separation.specs.Calls.{called}
 use Rattle.runs.specs.Script.{call_of}

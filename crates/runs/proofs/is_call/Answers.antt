@@ -1,4 +1,3 @@
-use borrow.Author.Rules.{rules}
 use Rattle.runs.specs.Script.{is_call}
 use Rattle.runs.proofs.is_call.Goals as goal
 

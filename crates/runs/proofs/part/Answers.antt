@@ -6,7 +6,6 @@ use native.Mathlib.Nat.{add-sub_cancel_left, sub_self}
 use native.Mathlib.Omega.{arith}
 use lib.ListN.{length, take, drop, drop_of_length-le, length-drop}
 use lib.Seq.{take-nil, take_all}
-use borrow.Author.Rules.{rules}
 use Rattle.runs.proofs.part.Goals as goal
 
 none : (s : List ℕ) (a n : ℕ) → length s ≤ a → take (length s - length s) (drop (length s) s) ≡ take n (drop a s)

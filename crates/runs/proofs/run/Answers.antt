@@ -1,13 +1,11 @@
-use Prim.Native.Nat.{ℕ, ◌-◌}
+use Prim.Native.Nat.{ℕ}
 use mathlib.Core.Path.{ap, ◌∙◌}
 use mathlib.Core.List.{List}
 use native.Mathlib.Omega.{arith}
-use lib.ListN.{length}
-use borrow.Author.Rules.{rules}
 use Rattle.lists.proofs.Cases.{test_fails, test_holds}
 use Rattle.separation.specs.Calls.{called}
 use Rattle.runs.specs.Script.{is_call, call_of}
-use Rattle.runs.proofs.Laws.{Going, going_begin, going_step, going_no, going_full}
+use Rattle.runs.proofs.Laws.{going_begin, going_step, going_no, going_full}
 use Rattle.std.specs.Prelude.{not}
 use Rattle.runs.proofs.run.Goals as goal
 

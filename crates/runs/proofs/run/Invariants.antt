@@ -1,15 +1,8 @@
 -- After each call the calls that are left lead from the record in hand to what the whole run comes to, and the numbers of the answers so far
 -- stand in the buffer.
-use Prim.Native.Nat.{ℕ, ◌-◌}
-use mathlib.Core.Path.{ap, ◌∙◌}
-use mathlib.Core.List.{List}
-use native.Mathlib.Omega.{arith}
+use Prim.Native.Nat.{◌-◌}
 use lib.ListN.{length}
-use borrow.Author.Rules.{rules}
-use Rattle.lists.proofs.Cases.{test_fails, test_holds}
-use Rattle.separation.specs.Calls.{called}
-use Rattle.runs.specs.Script.{is_call, call_of}
-use Rattle.runs.proofs.Laws.{Going, going_begin, going_step, going_no, going_full}
+use Rattle.runs.proofs.Laws.{Going}
 use Rattle.runs.proofs.run.Given as goal
 
 abbrev pub invariant-loop-k : goal.invariant-loop-k

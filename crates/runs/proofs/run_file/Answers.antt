@@ -1,5 +1,4 @@
 -- Load's number decides: after a refusal nothing is run; after done the run starts from the loaded record, and demand 3 holds of every run.
-use borrow.Author.Rules.{rules}
 use Rattle.runs.proofs.Laws.{file_refused, file_run}
 use Rattle.runs.proofs.run_file.Goals as goal
 

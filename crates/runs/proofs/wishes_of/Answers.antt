@@ -4,8 +4,6 @@ use mathlib.Core.Path.{◌≡◌, ap, ◌∙◌}
 use mathlib.Core.List.{List}
 use native.Mathlib.Omega.{arith}
 use lib.ListN.{take, drop}
-use borrow.Author.Rules.{rules}
-use Rattle.lists.proofs.Cases.{cases}
 use Rattle.runs.specs.Script.{item_of, wishes_of}
 use Rattle.runs.proofs.wishes_of.Goals as goal
 use Rattle.runs.proofs.wishes_of.Goals.{then-said-lt25, else-said-lt25}

@@ -1,8 +1,4 @@
-use Prim.Native.Nat.{◌-◌}
-use native.Mathlib.Omega.{arith}
-use borrow.Author.Rules.{rules}
-use Rattle.lists.proofs.Loops.{Tabled, table_begin, table_more, table_over}
-use Rattle.file.specs.Bytes.{byte_at}
+use Rattle.lists.proofs.Loops.{table_begin, table_more, table_over}
 use Rattle.state.proofs.allocations_of.Goals as goal
 
 pub loop-i-init : goal.loop-i-init

@@ -1,8 +1,6 @@
 -- The loop computes the array by number: the allocation of segment s is byte s of the state.
 use Prim.Native.Nat.{◌-◌}
-use native.Mathlib.Omega.{arith}
-use borrow.Author.Rules.{rules}
-use Rattle.lists.proofs.Loops.{Tabled, table_begin, table_more, table_over}
+use Rattle.lists.proofs.Loops.{Tabled}
 use Rattle.file.specs.Bytes.{byte_at}
 use Rattle.state.proofs.allocations_of.Given as goal
 

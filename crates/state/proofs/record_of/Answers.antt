@@ -1,5 +1,4 @@
 -- Each field is what the reader that fills it gives.
-use borrow.Author.Rules.{rules}
 use Rattle.state.specs.State.{record_of}
 use Rattle.state.proofs.record_of.Goals as goal
 

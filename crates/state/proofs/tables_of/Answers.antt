@@ -1,5 +1,4 @@
 use mathlib.Core.Path.{◌∙◌}
-use borrow.Author.Rules.{rules}
 use Rattle.state.proofs.Laws.{tables_blank, tables_decoded}
 use Rattle.state.proofs.tables_of.Goals as goal
 

@@ -1,6 +1,5 @@
 -- The fourteen bytes that hold something are put into a row of zeros.
 use mathlib.Core.Path.{◌∙◌}
-use borrow.Author.Rules.{rules}
 use Rattle.state.proofs.Laws.{train_put}
 use Rattle.state.proofs.train_bytes.Goals as goal
 

@@ -1,13 +1,8 @@
-use Prim.Native.Nat.{ℕ, ◌-◌}
 use mathlib.Core.Path.{◌∙◌}
-use native.Mathlib.Omega.{arith}
 use lib.ListN.{length-replicate}
-use borrow.Author.Rules.{rules}
 use Rattle.lists.proofs.Numbered.{each_tabulate}
-use Rattle.lists.proofs.Loops.{Made, make_begin, make_more, make_over}
-use Rattle.trains.specs.declared.Train.{Train}
+use Rattle.lists.proofs.Loops.{make_begin, make_more, make_over}
 use Rattle.trains.specs.Train.{off}
-use Rattle.state.specs.State.{train_of}
 use Rattle.state.proofs.trains_of.Goals as goal
 
 pub loop-i-init : goal.loop-i-init

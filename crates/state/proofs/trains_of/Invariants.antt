@@ -1,13 +1,7 @@
 -- An array of the trains that bytes spell, made by number.
 use Prim.Native.Nat.{ℕ, ◌-◌}
-use mathlib.Core.Path.{◌∙◌}
-use native.Mathlib.Omega.{arith}
-use lib.ListN.{length-replicate}
-use borrow.Author.Rules.{rules}
-use Rattle.lists.proofs.Numbered.{each_tabulate}
-use Rattle.lists.proofs.Loops.{Made, make_begin, make_more, make_over}
+use Rattle.lists.proofs.Loops.{Made}
 use Rattle.trains.specs.declared.Train.{Train}
-use Rattle.trains.specs.Train.{off}
 use Rattle.state.specs.State.{train_of}
 use Rattle.state.proofs.trains_of.Given as goal
 

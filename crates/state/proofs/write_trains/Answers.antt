@@ -1,10 +1,9 @@
-use Prim.Native.Nat.{◌-◌}
 use mathlib.Core.Path.{◌≡◌}
 use native.Mathlib.Omega.{arith}
 use lib.ListN.{length}
 use borrow.Author.Rules.{rules}
 use Rattle.lists.proofs.Numbered.{long_of}
-use Rattle.state.proofs.Laws.{Left, left_all, left_fewer, left_none}
+use Rattle.state.proofs.Laws.{left_all, left_fewer, left_none}
 use Rattle.state.proofs.write_trains.Goals as goal
 
 pub loop-i-init : goal.loop-i-init

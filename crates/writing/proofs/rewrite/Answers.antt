@@ -1,7 +1,6 @@
 -- Load's refusal is handed on; the record of an accepted file is written, and what is written is the file, whose entries are bytes.
 use mathlib.Core.Path.{sym, ap, ◌∙◌}
 use native.Mathlib.Omega.{arith}
-use borrow.Author.Rules.{rules}
 use Rattle.answers.specs.Answers.{number_of}
 use Rattle.area.specs.declared.Outcome.{Outcome}
 use Rattle.writing.specs.Writing.{Octets}
