@@ -1,6 +1,5 @@
 -- The papers' number and place for each case of an answer, and the answer of a number and a place.
-use Rattle.std.specs.Prelude.{ℕ, eqb}
-use Rattle.lists.specs.Words.{if◌then◌else◌}
+use Rattle.std.specs.Prelude.{ℕ, eqb, if◌then◌else◌}
 use Rattle.answers.specs.declared.Answer.{Answer}
 use Rattle.answers.specs.declared.Answer.TheVariants.{Done, Refused}
 

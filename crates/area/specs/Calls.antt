@@ -1,8 +1,8 @@
 -- The calls on an area (document 01, "The calls" and "Refusals" 11 to 21; document 02, R-4, refusal 23). Each has its tests in the paper's
 -- order, of which the first that holds is the answer, and the record that it hands back when none holds; a refusal hands back the record
 -- as it came.
-use Rattle.std.specs.Prelude.{ℕ, not, List, ◌∷◌, length}
-use Rattle.lists.specs.Words.{if◌then◌else◌, each}
+use Rattle.std.specs.Prelude.{ℕ, not, List, ◌∷◌, length, if◌then◌else◌}
+use Rattle.lists.specs.Words.{each}
 use Rattle.lists.specs.Tests.{Test, ◌⇒◌, first_of}
 use Rattle.summary.specs.Summary.{summary_of}
 use Rattle.trains.specs.Due.{speed_due, request_due, grant_due, position_due}

@@ -1,6 +1,5 @@
 -- The tables of an area written back out as a file (document 02, R-1) into a lent buffer. Trains are not written.
-use Rattle.std.specs.Prelude.{ℕ, not, List, [], ◌∷◌, eqb, length}
-use Rattle.lists.specs.Words.{if◌then◌else◌}
+use Rattle.std.specs.Prelude.{ℕ, not, List, [], ◌∷◌, eqb, length, if◌then◌else◌}
 use Rattle.lists.specs.Tests.{Test, ◌⇒◌, first_of}
 use Rattle.file.specs.Layout.{file_size}
 use Rattle.encoding.specs.Encoding.{encoded}

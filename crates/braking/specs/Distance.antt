@@ -1,6 +1,5 @@
 -- The braking distance for every rate and speed.
-use Rattle.std.specs.Prelude.{ℕ, eqb}
-use Rattle.lists.specs.Words.{if◌then◌else◌}
+use Rattle.std.specs.Prelude.{ℕ, eqb, if◌then◌else◌}
 use Rattle.braking.specs.Braking.{S}
 
 -- 0 at a rate of 0, which no area has

@@ -1,5 +1,6 @@
 -- What speed, request and position make of each train by the list of where the trains stand, they make of each by tables and allocations;
 -- and what position frees by the place of each rear is what the definition frees.
+use Rattle.std.specs.Prelude.{if◌then◌else◌}
 use Prim.Native.Nat.{ℕ, ◌≤◌}
 use mathlib.Core.Path.{◌≡◌, refl, ap, ◌∙◌}
 use mathlib.Core.Bool.{true, false, not}
@@ -8,7 +9,7 @@ use native.Mathlib.Omega.{arith}
 use lib.Dec.{eqb}
 use lib.ListN.{length}
 use borrow.Author.Tests.{ne_eqb, lt-ltb}
-use Rattle.lists.specs.Words.{if◌then◌else◌, at, each, least}
+use Rattle.lists.specs.Words.{at, each, least}
 use Rattle.lists.proofs.Cases.{by_test, cases, lt_or_le}
 use Rattle.lists.proofs.Numbered.{nth_zero, nth_out, nth_each_in, length_each, each_same, made_beside}
 use Rattle.tables.specs.Tables.{segment_at}

@@ -2,8 +2,8 @@
 // lent the arrays of the tables by which it finds the rear again.
 #![tactic(auto)]
 
-ghost use Rattle.std.specs.Prelude.{◌≡◌, ℕ, eqb};
-ghost use Rattle.lists.specs.Words.{if◌then◌else◌, at, each};
+ghost use Rattle.std.specs.Prelude.{◌≡◌, ℕ, eqb, if◌then◌else◌};
+ghost use Rattle.lists.specs.Words.{at, each};
 ghost use Rattle.trains.specs.Train.{train_at};
 ghost use Rattle.trains.specs.Cycle.{sped_at, requested_at, moved_in};
 ghost use Rattle.standing.specs.Spots.{spot_at};

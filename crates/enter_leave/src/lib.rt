@@ -1,8 +1,8 @@
 // What enter and leave ask of a segment, and what becomes of the trains and of the allocations at these two.
 #![tactic(auto)]
 
-ghost use Rattle.std.specs.Prelude.{◌≡◌, not, ◌&&◌, [], ◌∷◌, ◌/◌, ◌%◌, ltb, eqb};
-ghost use Rattle.lists.specs.Words.{if◌then◌else◌, at, each};
+ghost use Rattle.std.specs.Prelude.{◌≡◌, not, ◌&&◌, [], ◌∷◌, ◌/◌, ◌%◌, ltb, eqb, if◌then◌else◌};
+ghost use Rattle.lists.specs.Words.{at, each};
 ghost use Rattle.lists.specs.Tests.{◌⇒◌, first_of};
 ghost use Rattle.tables.specs.Tables.{count_of};
 ghost use Rattle.trains.specs.Train.{own_in};

@@ -1,7 +1,7 @@
 -- The five blocks of an area file and what each carries at its end (document 01, "The area file").
-use Rattle.std.specs.Prelude.{ℕ, ◌+◌, ◌-◌, ◌*◌, ◌%◌, Bool, ◌&&◌, ◌||◌, take, drop, eqb, ltb}
+use Rattle.std.specs.Prelude.{ℕ, ◌+◌, ◌-◌, ◌*◌, ◌%◌, Bool, ◌&&◌, ◌||◌, take, drop, eqb, ltb, if◌then◌else◌}
 use mathlib.Core.List.{List, foldl}
-use Rattle.lists.specs.Words.{if◌then◌else◌, first_failing}
+use Rattle.lists.specs.Words.{first_failing}
 use Rattle.file.specs.Bytes.{byte_at, zeros}
 pub use Rattle.file.specs.Layout.{blocks, block_size, file_size}
 use Rattle.file.specs.Layout.{first_route_block, in_tail, kind_of, covered_bytes, block_bytes, route_zeros}

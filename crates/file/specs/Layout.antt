@@ -1,7 +1,6 @@
 -- Where everything stands in an area file (document 01, "The area file"), each number once: the places, for reading, and what a
 -- block, a header and a record are as rows of bytes, for writing. Bytes and blocks are counted from 0, records from 1.
-use Rattle.std.specs.Prelude.{ℕ, ◌+◌, ◌-◌, ◌*◌, ◌/◌, ◌%◌, List, [], ◌∷◌, ◌++◌, length, replicate, eqb, ltb}
-use Rattle.lists.specs.Words.{if◌then◌else◌}
+use Rattle.std.specs.Prelude.{ℕ, ◌+◌, ◌-◌, ◌*◌, ◌/◌, ◌%◌, List, [], ◌∷◌, ◌++◌, length, replicate, eqb, ltb, if◌then◌else◌}
 use Rattle.file.specs.Bytes.{two, four}
 
 -- five blocks of 512 bytes

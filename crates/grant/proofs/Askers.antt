@@ -1,4 +1,5 @@
 -- Of the trains that ask for each segment the one that goes before the others, gathered train by train.
+use Rattle.std.specs.Prelude.{if◌then◌else◌}
 use Prim.Native.Nat.{ℕ, ◌+◌}
 use mathlib.Core.Path.{◌≡◌, refl, sym, ap, ◌∙◌}
 use mathlib.Core.Bool.{◌||◌}
@@ -6,7 +7,7 @@ use mathlib.Core.List.{List}
 use lib.Dec.{eqb}
 use lib.ListN.{replicate}
 use borrow.Author.Tests.{eq-eqb, ne_eqb}
-use Rattle.lists.specs.Words.{if◌then◌else◌, at, each, tabulate}
+use Rattle.lists.specs.Words.{at, each, tabulate}
 use Rattle.lists.proofs.Cases.{cases, eq_or_ne}
 use Rattle.lists.proofs.Numbered.{nth_tabulate, each_made, tabulate_same}
 use Rattle.trains.specs.Order.{goes_before, foremost}

@@ -1,8 +1,8 @@
 // What becomes of the trains and of the allocations at grant. Of the tables only the routes are read, which are lent.
 #![tactic(auto)]
 
-ghost use Rattle.std.specs.Prelude.{◌≡◌, ◌||◌, eqb};
-ghost use Rattle.lists.specs.Words.{if◌then◌else◌, at, each, tabulate, ◌or_else◌};
+ghost use Rattle.std.specs.Prelude.{◌≡◌, ◌||◌, eqb, if◌then◌else◌};
+ghost use Rattle.lists.specs.Words.{at, each, tabulate, ◌or_else◌};
 ghost use Rattle.tables.specs.declared.Tables.{Tables};
 ghost use Rattle.trains.specs.Train.{most_trains, wanted_in};
 ghost use Rattle.trains.specs.Order.{goes_before, foremost};

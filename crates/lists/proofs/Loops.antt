@@ -5,6 +5,7 @@
 --     an array filled entry by entry   invariant  Made n f l old i new   make-begin, make-more, make-over
 --     an array computed by number      invariant  Tabled n f i new       table-begin, table_more, table-over
 --     a fold over the entries          foldl f b (take i l)              fold_more
+use Rattle.std.specs.Prelude.{if◌then◌else◌}
 use mathlib.Core.Path.{◌≡◌, refl, sym, ap, ◌∙◌}
 use mathlib.Core.List.{List, [], ◌∷◌, foldl, foldl-append}
 use mathlib.Core.Logic.{⊎_elim}
@@ -16,7 +17,7 @@ use native.Mathlib.Omega.{arith}
 use lib.Dec.{eqb}
 use lib.ListN.{length, get_or, set, take, replicate, length-replicate}
 use lib.Seq.{take-suc}
-use Rattle.lists.specs.Words.{if◌then◌else◌, each, tabulate, every, ◌or_else◌, least, first_failing}
+use Rattle.lists.specs.Words.{each, tabulate, every, ◌or_else◌, least, first_failing}
 use Rattle.lists.proofs.Numbered.{each_tabulate}
 use borrow.Author.Tests.{eq-eqb, ne_eqb, not-true}
 use Rattle.lists.proofs.Cases.{by_test, not_both, cases, lt_or_le, eq_or_ne, test_fails, test_holds}

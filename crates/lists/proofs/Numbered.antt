@@ -1,4 +1,5 @@
 -- Laws of entries by number, of `each` and of `tabulate`.
+use Rattle.std.specs.Prelude.{if◌then◌else◌}
 use mathlib.Core.Path.{◌≡◌, refl, sym, ap, ◌∙◌}
 use mathlib.Core.List.{List, [], ◌∷◌, ◌++◌, map}
 use Prim.Native.Nat.{ℕ, zero, suc, ◌+◌, ◌-◌, ◌≤◌, ◌<◌}
@@ -10,7 +11,7 @@ use lib.Seq.{ext_get_or}
 use lib.Dec.{eqb, eqb-suc-suc}
 use borrow.Author.Tests.{ne_eqb}
 use mathlib.Core.Logic.{◌⊎◌, ⊎_elim}
-use Rattle.lists.specs.Words.{if◌then◌else◌, nth, each, tabulate}
+use Rattle.lists.specs.Words.{nth, each, tabulate}
 use Rattle.lists.proofs.Cases.{cases, lt_or_le}
 
 module _ {A : Type 0} (none : A) where

@@ -1,5 +1,6 @@
 -- Laws of a list of tests: none of which holds, of which the first that holds is known by its number, and taken one at a time as
 -- the code takes them.
+use Rattle.std.specs.Prelude.{if◌then◌else◌}
 use Prim.Native.Nat.{ℕ, ◌≤◌, ◌<◌}
 use mathlib.Core.Path.{◌≡◌, refl, sym, ◌∙◌}
 use mathlib.Core.Logic.{◌⊎◌}
@@ -8,7 +9,6 @@ use mathlib.Core.List.{List, [], ◌∷◌}
 use native.Mathlib.Omega.{arith}
 use lib.Dec.{leb, ltb, eqb}
 use borrow.Author.Tests.{eqb-true, eqb-false, lt-ltb, le-ltb, le-leb, lt-leb, eq-eqb, ne_eqb, not-true, not-false}
-use Rattle.lists.specs.Words.{if◌then◌else◌}
 use Rattle.lists.specs.Tests.{Test, ◌⇒◌, ◌⇒◌place◌, first_of, condition_of, place_named}
 use Rattle.lists.proofs.Cases.{if_case, by_test, cases, lt_or_le, eq_or_ne, not_both, facts, test_fails, test_holds}
 

@@ -1,6 +1,5 @@
 -- A list of tests, each with the number of its refusal, of which the first that holds gives the answer.
-use Rattle.std.specs.Prelude.{ℕ, Bool, false, List, [], ◌∷◌, eqb}
-use Rattle.lists.specs.Words.{if◌then◌else◌}
+use Rattle.std.specs.Prelude.{ℕ, Bool, false, List, [], ◌∷◌, eqb, if◌then◌else◌}
 
 -- a condition, the number of the refusal that is given when it holds, and the place that the refusal names
 pub record Test : Type 0 where

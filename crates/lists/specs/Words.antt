@@ -1,11 +1,5 @@
 -- The words that the definitions of all crates are written in. Entries of a list are counted from 1, and 0 stands for none.
-use Rattle.std.specs.Prelude.{ℕ, zero, suc, Bool, true, false, not, ◌&&◌, List, [], ◌∷◌, ltb, get_or}
-
--- a choice by a test
-infix 1 if◌then◌else◌
-abbrev pub if◌then◌else◌ : {A : Type 0} → Bool → A → A → A
-if true then a else b = a
-if false then a else b = b
+use Rattle.std.specs.Prelude.{ℕ, zero, suc, Bool, true, false, not, ◌&&◌, List, [], ◌∷◌, ltb, get_or, if◌then◌else◌}
 
 module _ {A : Type 0} (none : A) where
   -- entry n of a list; `none` where the list has no entry n

@@ -1,6 +1,6 @@
 -- Load (document 01, "Refusals" and "The calls"): the answer to a file and the area record that it gives.
-use Rattle.std.specs.Prelude.{ℕ, List, replicate, ◌≡◌}
-use Rattle.lists.specs.Words.{if◌then◌else◌, at}
+use Rattle.std.specs.Prelude.{ℕ, List, replicate, ◌≡◌, if◌then◌else◌}
+use Rattle.lists.specs.Words.{at}
 use Rattle.lists.specs.Tests.{Test}
 use Rattle.tables.specs.declared.Tables.{Tables}
 use Rattle.tables.specs.Tables.{blank_tables}

@@ -1,10 +1,10 @@
 -- What a run from a file and from any record comes to, in the words of the contracts.
+use Rattle.std.specs.Prelude.{if◌then◌else◌}
 use Prim.Native.Nat.{ℕ}
 use mathlib.Core.Path.{◌≡◌, refl, sym, ap, ◌∙◌}
 use mathlib.Core.List.{List}
 use lib.ListN.{length}
 use borrow.Author.Tests.{eq-eqb, ne_eqb}
-use Rattle.lists.specs.Words.{if◌then◌else◌}
 use Rattle.lists.proofs.Cases.{if_case, not_both}
 use Rattle.file.specs.Layout.{file_size}
 use Rattle.decoding.specs.Decoding.{decoded}

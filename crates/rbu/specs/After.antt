@@ -1,6 +1,5 @@
 -- What stands after a script, as the contracts name it.
-use Rattle.std.specs.Prelude.{ℕ, ◌≤◌, ◌≡◌, List, length}
-use Rattle.lists.specs.Words.{if◌then◌else◌}
+use Rattle.std.specs.Prelude.{ℕ, ◌≤◌, ◌≡◌, List, length, if◌then◌else◌}
 use Rattle.file.specs.Layout.{file_size}
 use Rattle.area.specs.declared.Area.{Area}
 use Rattle.loading.specs.Load.{loaded}

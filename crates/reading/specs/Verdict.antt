@@ -1,6 +1,6 @@
 -- What load says of a file (document 01, "Refusals" 1 to 10): rules 1 to 10 in that order, each over the whole file.
-use Rattle.std.specs.Prelude.{ℕ, ◌+◌, ◌-◌, Bool, not, ◌&&◌, List, [], ◌∷◌, length, ltb, eqb}
-use Rattle.lists.specs.Words.{if◌then◌else◌, first_failing}
+use Rattle.std.specs.Prelude.{ℕ, ◌+◌, ◌-◌, Bool, not, ◌&&◌, List, [], ◌∷◌, length, ltb, eqb, if◌then◌else◌}
+use Rattle.lists.specs.Words.{first_failing}
 use Rattle.lists.specs.Tests.{Test, ◌⇒◌, ◌⇒◌place◌, first_of}
 use Rattle.file.specs.Bytes.{byte_at, zeros}
 use Rattle.file.specs.Layout.{in_tail, header_block, in_header, version, segment_start, in_segment}

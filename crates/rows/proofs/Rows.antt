@@ -1,11 +1,12 @@
 -- The rows of the table hold: what load answers to the files, what the calls position and enter make of a record, and the computed test.
+use Rattle.std.specs.Prelude.{if◌then◌else◌}
 use Prim.Native.Nat.{ℕ}
 use mathlib.Core.Path.{◌≡◌, refl, ap, ◌∙◌}
 use mathlib.Core.Bool.{Bool, true, false, ◌&&◌}
 use mathlib.Core.List.{List, [], ◌∷◌}
 use lib.Dec.{leb, ltb}
 use lib.ListN.{replicate}
-use Rattle.lists.specs.Words.{if◌then◌else◌, nth, at, each, every, least}
+use Rattle.lists.specs.Words.{nth, at, each, every, least}
 use Rattle.lists.specs.Tests.{first_of}
 use Rattle.lists.proofs.Cases.{by_test}
 use Rattle.file.specs.Bytes.{two, two_at}

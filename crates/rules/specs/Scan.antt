@@ -1,6 +1,5 @@
 -- Rules 7 to 9 as one test of a segment, told apart by the number of the rule, so that one scan serves all three.
-use Rattle.std.specs.Prelude.{ℕ, Bool, List, eqb}
-use Rattle.lists.specs.Words.{if◌then◌else◌}
+use Rattle.std.specs.Prelude.{ℕ, Bool, List, eqb, if◌then◌else◌}
 use Rattle.tables.specs.Rules.{joint_in, order_in, drop_in}
 
 -- rules 7 to 9 of segment s: joint, order, drop

@@ -1,4 +1,5 @@
 -- A run's loop: it begins, it goes on, it ends. And what a file's run comes to.
+use Rattle.std.specs.Prelude.{if◌then◌else◌}
 use Prim.Native.Nat.{ℕ, zero, suc, ◌+◌, ◌-◌, ◌*◌, ◌≤◌, ◌<◌}
 use mathlib.Core.Path.{◌≡◌, refl, sym, ap, ◌∙◌}
 use mathlib.Core.Bool.{Bool, true, false}
@@ -8,7 +9,6 @@ use native.Mathlib.Omega.{arith}
 use lib.ListN.{length, take, drop, set, length-take, length-drop, length-set, take-append-drop}
 use lib.Seq.{drop-drop, drop-set-lt, take-suc-set}
 use borrow.Author.Tests.{eq-eqb, ne_eqb}
-use Rattle.lists.specs.Words.{if◌then◌else◌}
 use Rattle.lists.proofs.Cases.{facts}
 use Rattle.decoding.specs.Decoding.{decoded}
 use Rattle.area.specs.declared.Area.{Area}

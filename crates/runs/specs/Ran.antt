@@ -1,6 +1,5 @@
 -- What a run of a script hands back and writes, by the list of calls that the script spells.
-use Rattle.std.specs.Prelude.{ℕ, List, map, ◌++◌, length, drop}
-use Rattle.lists.specs.Words.{if◌then◌else◌}
+use Rattle.std.specs.Prelude.{ℕ, List, map, ◌++◌, length, drop, if◌then◌else◌}
 use Rattle.area.specs.declared.Area.{Area}
 use Rattle.answers.specs.Answers.{number_of}
 use Rattle.loading.specs.Load.{loaded}

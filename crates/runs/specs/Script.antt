@@ -1,6 +1,5 @@
 -- The script of a run: records of 32 items of 16 bits, each a call (docs/FORMATS.md). Items are counted from 0.
-use Rattle.std.specs.Prelude.{ℕ, zero, suc, min, Bool, ◌&&◌, List, [], ◌∷◌, eqb, leb, length, get_or, take, drop}
-use Rattle.lists.specs.Words.{if◌then◌else◌}
+use Rattle.std.specs.Prelude.{ℕ, zero, suc, min, Bool, ◌&&◌, List, [], ◌∷◌, eqb, leb, length, get_or, take, drop, if◌then◌else◌}
 use Rattle.separation.specs.Calls.{Call, Enter, Leave, Speed, Request, Grant, Position}
 
 abbrev pub item_of : List ℕ → ℕ → ℕ

@@ -1,4 +1,5 @@
 -- Each call of a list, done or refused, keeps what holds; none is answered 11, and none names a place.
+use Rattle.std.specs.Prelude.{if◌then◌else◌}
 use Prim.Native.Nat.{ℕ, ◌≤◌}
 use mathlib.Core.Path.{◌≡◌, refl, sym, ap, ◌∙◌}
 use mathlib.Core.Bool.{true, false, not, ◌&&◌, and-eq-true_iff}
@@ -6,7 +7,7 @@ use mathlib.Core.List.{List}
 use native.Mathlib.Omega.{arith}
 use lib.Dec.{leb, eqb}
 use borrow.Author.Tests.{eqb-true, ltb-false, not-false}
-use Rattle.lists.specs.Words.{if◌then◌else◌, at}
+use Rattle.lists.specs.Words.{at}
 use Rattle.lists.specs.Tests.{Test, first_of, condition_of}
 use Rattle.lists.proofs.Cases.{by_test, not_both, facts}
 use Rattle.lists.proofs.Refusals.{passed, absent, apart, first_named, first_none, first_number, placeless, first_placeless}

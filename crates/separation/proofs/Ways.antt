@@ -1,4 +1,5 @@
 -- The run in which trains have only a way shows the same record and gives the same answers.
+use Rattle.std.specs.Prelude.{if◌then◌else◌}
 use Prim.Native.Nat.{ℕ, ◌+◌, ◌-◌, ◌≤◌, ◌<◌}
 use mathlib.Core.Path.{◌≡◌, refl, sym, ap, ◌∙◌}
 use mathlib.Core.Bool.{Bool, true}
@@ -8,7 +9,7 @@ use lib.Dec.{ltb, eqb}
 use lib.ListN.{length}
 use lib.Seq.{ext_get_or}
 use borrow.Author.Tests.{ltb-true, lt-ltb}
-use Rattle.lists.specs.Words.{if◌then◌else◌, nth, each, tabulate, least}
+use Rattle.lists.specs.Words.{nth, each, tabulate, least}
 use Rattle.lists.proofs.Cases.{by_test}
 use Rattle.lists.proofs.Loops.{least_holds, least_upto}
 use Rattle.lists.proofs.Numbered.{nth_index, length_tabulate, nth_tabulate, nth_replicate, length_each, nth_each_in}

@@ -1,6 +1,6 @@
 -- A list of calls worked through (document 01, "Whole runs"; document 02, R-4).
-use Rattle.std.specs.Prelude.{ℕ, ◌+◌, Bool, true, false, not, ◌&&◌, ◌||◌, List, [], ◌∷◌, ◌++◌, eqb}
-use Rattle.lists.specs.Words.{if◌then◌else◌, at}
+use Rattle.std.specs.Prelude.{ℕ, ◌+◌, Bool, true, false, not, ◌&&◌, ◌||◌, List, [], ◌∷◌, ◌++◌, eqb, if◌then◌else◌}
+use Rattle.lists.specs.Words.{at}
 use Rattle.trains.specs.declared.Train.{Train}
 use Rattle.trains.specs.Train.{Journey, journey_of, off, train_at}
 use Rattle.answers.specs.declared.Answer.{Answer}

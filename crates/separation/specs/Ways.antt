@@ -1,7 +1,7 @@
 -- The same list worked through with trains that keep their way in the place of a place and a position, which are worked out of it wherever
 -- the record is looked at (document 01, "Whole runs"; document 02, R-4).
-use Rattle.std.specs.Prelude.{ℕ, ◌+◌, ◌-◌, List, [], ◌∷◌, ◌++◌, ltb, eqb}
-use Rattle.lists.specs.Words.{if◌then◌else◌, nth, each, tabulate, least}
+use Rattle.std.specs.Prelude.{ℕ, ◌+◌, ◌-◌, List, [], ◌∷◌, ◌++◌, ltb, eqb, if◌then◌else◌}
+use Rattle.lists.specs.Words.{nth, each, tabulate, least}
 use Rattle.tables.specs.declared.Tables.{Tables}
 use Rattle.tables.specs.Tables.{count_of}
 use Rattle.trains.specs.declared.Train.{Train}

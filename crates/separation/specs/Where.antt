@@ -1,7 +1,7 @@
 -- Where a train is, by its way (document 01, "Whole runs") and its length (document 02, R-4). T are the tables of the file, t is a train,
 -- s a segment, p a place of the train's route, counted from 1.
-use Rattle.std.specs.Prelude.{ℕ, zero, suc, ◌+◌, ◌-◌, ◌≤◌, ◌<◌, ◌≡◌, true, eqb}
-use Rattle.lists.specs.Words.{if◌then◌else◌, at}
+use Rattle.std.specs.Prelude.{ℕ, zero, suc, ◌+◌, ◌-◌, ◌≤◌, ◌<◌, ◌≡◌, true, eqb, if◌then◌else◌}
+use Rattle.lists.specs.Words.{at}
 use Rattle.tables.specs.declared.Tables.{Tables}
 use Rattle.tables.specs.Tables.{count_of, segment_at, braking_distance}
 use Rattle.trains.specs.Train.{train_at}

@@ -1,9 +1,10 @@
 -- What is left of a list of allocations when the segments of which a test holds are taken away.
+use Rattle.std.specs.Prelude.{if◌then◌else◌}
 use Prim.Native.Nat.{ℕ, suc}
 use mathlib.Core.Path.{◌≡◌, refl, ap, ◌∙◌}
 use mathlib.Core.Bool.{Bool, false, ◌||◌}
 use mathlib.Core.List.{List, [], ◌∷◌}
-use Rattle.lists.specs.Words.{if◌then◌else◌, each}
+use Rattle.lists.specs.Words.{each}
 use Rattle.lists.proofs.Cases.{by_test}
 use Rattle.lists.proofs.Numbered.{each_same, each_keeps}
 

@@ -1,8 +1,8 @@
 -- How the test of the allocations goes about it: what each train may hold is taken away from them, and nothing may be left. That this is
 -- the test of "A sound record" where the trains are sound is proved in proofs/.
 -- p is where train x stands, s a segment, h who holds it.
-use Rattle.std.specs.Prelude.{ℕ, Bool, ◌&&◌, ◌||◌, List, leb, eqb}
-use Rattle.lists.specs.Words.{if◌then◌else◌, some}
+use Rattle.std.specs.Prelude.{ℕ, Bool, ◌&&◌, ◌||◌, List, leb, eqb, if◌then◌else◌}
+use Rattle.lists.specs.Words.{some}
 use Rattle.tables.specs.Tables.{segment_at}
 use Rattle.trains.specs.declared.Train.{Train}
 use Rattle.trains.specs.declared.Spot.{Spot}

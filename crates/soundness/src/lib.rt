@@ -1,8 +1,8 @@
 // The conditions of a sound record on trains and allocations. Of a record handed in nothing is known but what is tested first.
 #![tactic(auto)]
 
-ghost use Rattle.std.specs.Prelude.{◌≡◌, true, ◌&&◌, ◌≤◌, leb, eqb};
-ghost use Rattle.lists.specs.Words.{if◌then◌else◌, at, each, every, some};
+ghost use Rattle.std.specs.Prelude.{◌≡◌, true, ◌&&◌, ◌≤◌, leb, eqb, if◌then◌else◌};
+ghost use Rattle.lists.specs.Words.{at, each, every, some};
 ghost use Rattle.tables.specs.Bounds.{most_segments};
 ghost use Rattle.tables.specs.Tables.{segment_at, distance_in};
 ghost use Rattle.trains.specs.Train.{most_trains, train_at};

@@ -1,10 +1,11 @@
 -- Where a train on stands, and the list of where all of them do.
+use Rattle.std.specs.Prelude.{if◌then◌else◌}
 use Prim.Native.Nat.{ℕ, ◌≤◌}
 use mathlib.Core.Path.{◌≡◌, ap, ◌∙◌}
 use mathlib.Core.List.{List}
 use native.Mathlib.Omega.{arith}
 use lib.ListN.{length}
-use Rattle.lists.specs.Words.{if◌then◌else◌, at}
+use Rattle.lists.specs.Words.{at}
 use Rattle.lists.proofs.Cases.{by_test}
 use Rattle.lists.proofs.Numbered.{nth_each_in}
 use Rattle.tables.specs.declared.Tables.{Tables}

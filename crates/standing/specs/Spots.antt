@@ -1,6 +1,6 @@
 -- Where each train of an area stands, as a list beside the trains. A train off stands nowhere.
-use Rattle.std.specs.Prelude.{ℕ, false, List}
-use Rattle.lists.specs.Words.{if◌then◌else◌, nth, at, each}
+use Rattle.std.specs.Prelude.{ℕ, false, List, if◌then◌else◌}
+use Rattle.lists.specs.Words.{nth, at, each}
 use Rattle.tables.specs.declared.Tables.{Tables}
 use Rattle.trains.specs.declared.Train.{Train}
 use Rattle.trains.specs.declared.Spot.{Spot}

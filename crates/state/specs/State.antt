@@ -1,6 +1,6 @@
 -- The running state of an area as bytes (docs/FORMATS.md): step due, allocations, trains. Bytes are counted from 0.
-use Rattle.std.specs.Prelude.{ℕ, ◌+◌, ◌-◌, ◌*◌, ◌≤◌, ◌≡◌, List, [], ◌∷◌, ◌++◌, eqb, length, replicate}
-use Rattle.lists.specs.Words.{if◌then◌else◌, tabulate}
+use Rattle.std.specs.Prelude.{ℕ, ◌+◌, ◌-◌, ◌*◌, ◌≤◌, ◌≡◌, List, [], ◌∷◌, ◌++◌, eqb, length, replicate, if◌then◌else◌}
+use Rattle.lists.specs.Words.{tabulate}
 use Rattle.file.specs.Bytes.{byte_at, two_at, four_at, two, four, put_at}
 use Rattle.file.specs.Layout.{file_size}
 use Rattle.tables.specs.declared.Tables.{Tables}

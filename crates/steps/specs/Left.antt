@@ -1,7 +1,6 @@
 -- What a train's rear leaves at a position step (document 02, R-4), as the step works it out. That just this is freed is law `left_is`
 -- (trains/Freed): at most one segment is.
-use Rattle.std.specs.Prelude.{ℕ, not, ◌&&◌, List, eqb}
-use Rattle.lists.specs.Words.{if◌then◌else◌}
+use Rattle.std.specs.Prelude.{ℕ, not, ◌&&◌, List, eqb, if◌then◌else◌}
 use Rattle.tables.specs.Tables.{segment_at}
 use Rattle.trains.specs.declared.Train.{Train}
 use Rattle.trains.specs.Train.{is_on, rear_in}

@@ -1,8 +1,8 @@
 // What one train, and the allocation of one segment, becomes at speed, request and position; the tests of a step.
 #![tactic(auto)]
 
-ghost use Rattle.std.specs.Prelude.{◌≡◌, not, ◌∷◌, ◌+◌, ◌-◌, min, max, eqb};
-ghost use Rattle.lists.specs.Words.{if◌then◌else◌, at};
+ghost use Rattle.std.specs.Prelude.{◌≡◌, not, ◌∷◌, ◌+◌, ◌-◌, min, max, eqb, if◌then◌else◌};
+ghost use Rattle.lists.specs.Words.{at};
 ghost use Rattle.lists.specs.Tests.{◌⇒◌, first_of};
 ghost use Rattle.trains.specs.Cycle.{due_tests, wish_tests, upper_end, new_speed, sped_at, requested_at, moves_in, moved_in};
 ghost use Rattle.steps.specs.Room.{Room};

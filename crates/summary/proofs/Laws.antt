@@ -1,5 +1,6 @@
 -- The laws of the allocations' word: the loop that builds it, the count of its ones, and the zeros below the lowest one of its
 -- complement.
+use Rattle.std.specs.Prelude.{if◌then◌else◌}
 use Prim.Native.Nat.{ℕ, zero, suc, ◌+◌, ◌-◌, ◌*◌, ◌/◌, ◌%◌, ◌^◌, ◌≤◌, ◌<◌}
 use mathlib.Core.Path.{◌≡◌, refl}
 use mathlib.Core.Bool.{Bool, true, false}
@@ -11,7 +12,7 @@ use lib.Count.{ones, ones_step, ones-le, count_trailing_zeros, trailing_le, unde
 use lib.ListN.{length, drop, get_or, length-drop}
 use lib.Pow.{pow_mono, pow_pos}
 use lib.Seq.{drop-cons, drop-length}
-use Rattle.lists.specs.Words.{if◌then◌else◌, at, least}
+use Rattle.lists.specs.Words.{at, least}
 use Rattle.lists.proofs.Numbered.{nth_index}
 use Rattle.lists.proofs.Loops.{least_nothing, least_more, least_found}
 use Rattle.lists.proofs.Cases.{if_case}

@@ -1,6 +1,6 @@
 -- The report's numbers (document 01, "The calls"): allocated segments counted, and the least free segment, 0 if none.
-use Rattle.std.specs.Prelude.{ℕ, ◌+◌, Bool, List, [], ◌∷◌, eqb}
-use Rattle.lists.specs.Words.{if◌then◌else◌, at, least}
+use Rattle.std.specs.Prelude.{ℕ, ◌+◌, Bool, List, [], ◌∷◌, eqb, if◌then◌else◌}
+use Rattle.lists.specs.Words.{at, least}
 use Rattle.summary.specs.declared.Summary.{Summary}
 
 -- a segment is free if it is allocated to no train

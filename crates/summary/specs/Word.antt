@@ -1,6 +1,5 @@
 -- The word in which bit s - 1 is set exactly when segment s is allocated. Only the private functions' contracts name it.
-use Rattle.std.specs.Prelude.{ℕ, ◌+◌, ◌*◌, List, [], ◌∷◌}
-use Rattle.lists.specs.Words.{if◌then◌else◌}
+use Rattle.std.specs.Prelude.{ℕ, ◌+◌, ◌*◌, List, [], ◌∷◌, if◌then◌else◌}
 use Rattle.summary.specs.Summary.{is_free}
 
 -- a segment's bit

@@ -1,8 +1,8 @@
 -- Rules 4 to 10 of document 01, "Refusals", as conditions on tables. A rule of a record, a segment or a route is a test of its number.
 -- n and R are the numbers of segments and routes, gmax the top speed, b the speed lost by a cycle of full braking, d the end distance;
 -- β are the bounds that rules 4 and 6 read (document 02, R-3).
-use Rattle.std.specs.Prelude.{ℕ, ◌+◌, ◌-◌, Bool, not, ◌&&◌, ◌||◌, List, leb, ltb, eqb}
-use Rattle.lists.specs.Words.{if◌then◌else◌, at, every}
+use Rattle.std.specs.Prelude.{ℕ, ◌+◌, ◌-◌, Bool, not, ◌&&◌, ◌||◌, List, leb, ltb, eqb, if◌then◌else◌}
+use Rattle.lists.specs.Words.{at, every}
 use Rattle.tables.specs.declared.Tables.{Tables}
 use Rattle.tables.specs.declared.Segment.{Segment}
 use Rattle.tables.specs.Bounds.{most_segments, most_routes, longest_route, Bounds, bounds}

@@ -1,4 +1,5 @@
 -- What near means, and what speed, request, position, enter and leave do to one train and to one allocation, in the paper's words.
+use Rattle.std.specs.Prelude.{if◌then◌else◌}
 use Prim.Native.Nat.{ℕ, ◌-◌, ◌≤◌, min}
 use mathlib.Core.Path.{◌≡◌, ap}
 use mathlib.Core.Logic.{◌↔◌}
@@ -6,7 +7,7 @@ use mathlib.Core.Bool.{Bool, true, false, not, ◌&&◌}
 use mathlib.Core.List.{List}
 use native.Mathlib.Omega.{arith}
 use borrow.Author.Tests.{leb-true, le-leb, lt-ltb, eq-eqb, ne_eqb}
-use Rattle.lists.specs.Words.{if◌then◌else◌, at}
+use Rattle.lists.specs.Words.{at}
 use Rattle.lists.proofs.Cases.{if_case, not_both, facts}
 use Rattle.tables.specs.declared.Tables.{Tables}
 use Rattle.trains.specs.declared.Train.{Train}

@@ -1,4 +1,5 @@
 -- What a train frees at position: one segment at the most, the one at its rear's place; nothing while its rear is outside the area.
+use Rattle.std.specs.Prelude.{if◌then◌else◌}
 use Prim.Native.Nat.{ℕ, ◌+◌, ◌-◌, ◌≤◌, ◌<◌}
 use mathlib.Core.Path.{◌≡◌, refl, sym, ap, ◌∙◌}
 use mathlib.Core.Logic.{◌↔◌}
@@ -7,7 +8,7 @@ use mathlib.Core.Bool.{true, false, not, and-eq-true_iff}
 use native.Mathlib.Omega.{arith}
 use lib.Dec.{eqb}
 use borrow.Author.Tests.{eq-eqb, ne_eqb, lt-ltb, not-true}
-use Rattle.lists.specs.Words.{if◌then◌else◌, at}
+use Rattle.lists.specs.Words.{at}
 use Rattle.lists.proofs.Cases.{by_test, cases, lt_or_le, eq_or_ne, not_both, is_false, facts}
 use Rattle.tables.specs.declared.Tables.{Tables}
 use Rattle.tables.specs.Tables.{count_of, segment_at, braking_distance}

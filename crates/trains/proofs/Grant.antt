@@ -1,5 +1,6 @@
 -- What a grant does, in the papers' words: an allocated segment keeps its holder; a free segment that is asked for goes to a train that
 -- asked for it, and none that did goes before it; nobody asks afterwards; and what each train counts.
+use Rattle.std.specs.Prelude.{if◌then◌else◌}
 use Prim.Native.Nat.{ℕ, ◌+◌, ◌≤◌, min}
 use mathlib.Core.Path.{◌≡◌, refl, sym, ◌∙◌}
 use mathlib.Core.Bool.{Bool, true, false}
@@ -7,7 +8,7 @@ use mathlib.Core.List.{List}
 use native.Mathlib.Omega.{arith}
 use lib.Dec.{eqb}
 use borrow.Author.Tests.{eq-eqb, ne_eqb, eqb-true}
-use Rattle.lists.specs.Words.{if◌then◌else◌, at}
+use Rattle.lists.specs.Words.{at}
 use Rattle.tables.specs.declared.Tables.{Tables}
 use Rattle.trains.specs.declared.Train.{Train}
 use Rattle.trains.specs.Train.{most_trains, answered, train_at, wanted}

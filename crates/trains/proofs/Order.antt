@@ -1,4 +1,5 @@
 -- The order of the trains is total, and the foremost of those that pass a test is what its name says.
+use Rattle.std.specs.Prelude.{if◌then◌else◌}
 use Prim.Native.Nat.{ℕ, zero, suc, ◌+◌, ◌≤◌, ◌<◌}
 use mathlib.Core.Path.{◌≡◌, refl}
 use mathlib.Core.Logic.{◌⊎◌, inl, inr, ◌↔◌}
@@ -7,7 +8,6 @@ use native.Mathlib.Omega.{arith}
 use native.Mathlib.Numerals.{add-one}
 use lib.Dec.{ltb, eqb}
 use borrow.Author.Tests.{ltb-true, lt-ltb, eqb-true, eq-eqb}
-use Rattle.lists.specs.Words.{if◌then◌else◌}
 use Rattle.lists.proofs.Cases.{by_test, cases, lt_or_le, eq_or_ne, not_both, is_false, and_iff, either, either_yes}
 use Rattle.trains.specs.Order.{goes_before, foremost}
 

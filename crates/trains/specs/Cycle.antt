@@ -1,8 +1,8 @@
 -- What becomes of one train, and of one segment's allocation, at speed, request and position, and what the steps of a cycle ask (document
 -- 01, "The calls" and "Refusals"; document 02, R-4).
 -- T are the tables of the area, A its allocations, t the number of a train, x the train, p where it stands, s a segment, h who holds it.
-use Rattle.std.specs.Prelude.{ℕ, ◌+◌, ◌-◌, min, max, Bool, not, ◌&&◌, List, [], ◌∷◌, leb, ltb, eqb}
-use Rattle.lists.specs.Words.{if◌then◌else◌, at}
+use Rattle.std.specs.Prelude.{ℕ, ◌+◌, ◌-◌, min, max, Bool, not, ◌&&◌, List, [], ◌∷◌, leb, ltb, eqb, if◌then◌else◌}
+use Rattle.lists.specs.Words.{at}
 use Rattle.lists.specs.Tests.{Test, ◌⇒◌}
 use Rattle.tables.specs.declared.Tables.{Tables}
 use Rattle.trains.specs.declared.Train.{Train}

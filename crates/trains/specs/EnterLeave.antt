@@ -2,8 +2,8 @@
 -- document 02, R-4).
 -- T are the tables of the area, A its allocations, t the number of a train, x the train, j its journey, r a route, s the number of a
 -- segment, h who holds it.
-use Rattle.std.specs.Prelude.{ℕ, ◌/◌, ◌%◌, Bool, not, ◌&&◌, List, [], ◌∷◌, ◌++◌, leb, ltb, eqb}
-use Rattle.lists.specs.Words.{if◌then◌else◌, at}
+use Rattle.std.specs.Prelude.{ℕ, ◌/◌, ◌%◌, Bool, not, ◌&&◌, List, [], ◌∷◌, ◌++◌, leb, ltb, eqb, if◌then◌else◌}
+use Rattle.lists.specs.Words.{at}
 use Rattle.lists.specs.Tests.{Test, ◌⇒◌}
 use Rattle.tables.specs.declared.Tables.{Tables}
 use Rattle.tables.specs.Tables.{count_of, segment_at}

@@ -1,8 +1,8 @@
 -- What becomes of the trains and of one segment's allocation at grant (document 01, "The calls"; document 02, R-2).
 -- T are the tables of the area, A its allocations, A' those after the step, t the number of a train, x the train, s the number of a
 -- segment, from 1, h who holds it.
-use Rattle.std.specs.Prelude.{ℕ, ◌+◌, min, Bool, ◌&&◌, List, eqb}
-use Rattle.lists.specs.Words.{if◌then◌else◌, at}
+use Rattle.std.specs.Prelude.{ℕ, ◌+◌, min, Bool, ◌&&◌, List, eqb, if◌then◌else◌}
+use Rattle.lists.specs.Words.{at}
 use Rattle.tables.specs.declared.Tables.{Tables}
 use Rattle.trains.specs.declared.Train.{Train}
 use Rattle.trains.specs.Train.{most_trains, answered, train_at, wanted}

@@ -1,8 +1,7 @@
 -- Who goes first (document 02, R-2): "the highest count wins, and equal counts go to the higher train number". What a grant does with
 -- this order stands in Grant.
 -- `count` says what the train of a number counts; t and u are numbers of trains.
-use Rattle.std.specs.Prelude.{ℕ, zero, suc, Bool, ◌&&◌, ◌||◌, ltb, eqb}
-use Rattle.lists.specs.Words.{if◌then◌else◌}
+use Rattle.std.specs.Prelude.{ℕ, zero, suc, Bool, ◌&&◌, ◌||◌, ltb, eqb, if◌then◌else◌}
 
 -- t goes before u
 unfoldable pub goes_before : (count : ℕ → ℕ) → (t u : ℕ) → Bool

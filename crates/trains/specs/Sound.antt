@@ -1,8 +1,8 @@
 -- The conditions of "A sound record" (document 01; document 02, R-4) on one train and on one allocation.
 -- T are the tables of the area, A its allocations, due the step due, t the number of a train, x the train, p where it stands, s a
 -- segment, h who holds it.
-use Rattle.std.specs.Prelude.{ℕ, ◌+◌, ◌-◌, Bool, ◌&&◌, ◌||◌, List, leb, ltb, eqb}
-use Rattle.lists.specs.Words.{if◌then◌else◌, at}
+use Rattle.std.specs.Prelude.{ℕ, ◌+◌, ◌-◌, Bool, ◌&&◌, ◌||◌, List, leb, ltb, eqb, if◌then◌else◌}
+use Rattle.lists.specs.Words.{at}
 use Rattle.tables.specs.declared.Tables.{Tables}
 use Rattle.tables.specs.Tables.{braking_distance}
 use Rattle.trains.specs.declared.Train.{Train}

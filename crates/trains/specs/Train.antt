@@ -1,8 +1,8 @@
 -- A train of an area: the six forms in which one is written, and what is said of one (document 01, "The calls";
 -- document 02, R-2 and R-4).
 -- T are the tables of the area, t the number of the train, x the train, r a route, p a place of it, s a segment.
-use Rattle.std.specs.Prelude.{ℕ, zero, suc, ◌+◌, ◌-◌, Bool, ◌&&◌, ◌||◌, List, leb, ltb, eqb}
-use Rattle.lists.specs.Words.{if◌then◌else◌, nth, at, every, some}
+use Rattle.std.specs.Prelude.{ℕ, zero, suc, ◌+◌, ◌-◌, Bool, ◌&&◌, ◌||◌, List, leb, ltb, eqb, if◌then◌else◌}
+use Rattle.lists.specs.Words.{nth, at, every, some}
 use Rattle.tables.specs.declared.Tables.{Tables}
 use Rattle.tables.specs.Tables.{count_of, segment_at}
 use Rattle.trains.specs.declared.Train.{Train}

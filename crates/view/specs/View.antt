@@ -1,6 +1,5 @@
 -- The route view (document 01, "The calls"): the part of the caller's file that lists a route's segments.
-use Rattle.std.specs.Prelude.{ℕ, ◌+◌, ◌*◌, Bool, ◌&&◌, List, take, drop, leb}
-use Rattle.lists.specs.Words.{if◌then◌else◌}
+use Rattle.std.specs.Prelude.{ℕ, ◌+◌, ◌*◌, Bool, ◌&&◌, List, take, drop, leb, if◌then◌else◌}
 use Rattle.file.specs.Bytes.{byte_at}
 use Rattle.file.specs.Layout.{block_size, route_block_of, route_start}
 use Rattle.decoding.specs.Decoding.{decoded}

@@ -1,4 +1,5 @@
 -- What each block of written tables holds, byte by byte.
+use Rattle.std.specs.Prelude.{if◌then◌else◌}
 use Prim.Native.Nat.{ℕ, suc, ◌+◌, ◌-◌, ◌*◌, ◌/◌, ◌%◌, ◌≤◌, ◌<◌}
 use mathlib.Core.Path.{◌≡◌, refl, sym, ap, ◌∙◌}
 use mathlib.Core.List.{List, append_assoc, append-nil}
@@ -7,7 +8,6 @@ use lib.Dec.{eqb, ltb}
 use lib.ListN.{length}
 use lib.Seq.{ext_get_or}
 use borrow.Author.Tests.{ne_eqb, lt-ltb, le-ltb}
-use Rattle.lists.specs.Words.{if◌then◌else◌}
 use Rattle.lists.proofs.Cases.{if_case}
 use Rattle.file.specs.Bytes.{byte_at}
 use Rattle.file.specs.Layout.{in_tail, header_block, first_segment_block, first_route_block, segments_in_block, routes_in_block, route_zeros}

@@ -1,8 +1,7 @@
 -- What is claimed of a record's tables written as a file (document 02, R-1): the answer and the buffer, for every record and buffer; that
 -- the file loads as those tables; that an accepted file comes out the same. a is a record, old and new are the bytes of a buffer before
 -- and after, n is the number of the answer, whose place is 0.
-use Rattle.std.specs.Prelude.{ℕ, ◌<◌, ◌≡◌, not, List, [], ◌∷◌, eqb, length}
-use Rattle.lists.specs.Words.{if◌then◌else◌}
+use Rattle.std.specs.Prelude.{ℕ, ◌<◌, ◌≡◌, not, List, [], ◌∷◌, eqb, length, if◌then◌else◌}
 use Rattle.lists.specs.Tests.{Test, ◌⇒◌, first_of}
 use Rattle.file.specs.Bytes.{byte_at}
 use Rattle.file.specs.Layout.{file_size}

@@ -1,5 +1,6 @@
 -- As for every step; that the record was found sound, test 11 passed, gives each train the room that its move asks for, and that at most
 -- one segment is freed for it.
+use Rattle.std.specs.Prelude.{if◌then◌else◌}
 use Prim.Native.Nat.{ℕ}
 use mathlib.Core.Path.{◌≡◌, refl, sym, ap, ◌∙◌}
 use Rattle.lists.specs.Tests.{◌⇒◌, first_of}
@@ -9,7 +10,7 @@ use mathlib.Core.List.{List, [], ◌∷◌}
 use lib.Dec.{eqb}
 use lib.ListN.{length}
 use borrow.Author.Tests.{eqb-true, not-false}
-use Rattle.lists.specs.Words.{if◌then◌else◌, at, each}
+use Rattle.lists.specs.Words.{at, each}
 use Rattle.lists.proofs.Numbered.{long_of}
 use Rattle.tables.proofs.Consistency.{consistent}
 use Rattle.trains.specs.declared.Train.{Train}

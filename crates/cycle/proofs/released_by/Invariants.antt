@@ -1,7 +1,8 @@
 -- The loop fills the array place by place: each turn frees one segment where its holder leaves it, and else keeps it.
+use Rattle.std.specs.Prelude.{if◌then◌else◌}
 use Prim.Native.Nat.{ℕ, ◌-◌}
 use lib.Dec.{eqb}
-use Rattle.lists.specs.Words.{if◌then◌else◌, at}
+use Rattle.lists.specs.Words.{at}
 use Rattle.lists.proofs.Loops.{Made}
 use Rattle.cycle.proofs.released_by.Given as goal
 

@@ -1,8 +1,8 @@
+use Rattle.std.specs.Prelude.{if◌then◌else◌}
 use Prim.Native.Nat.{ℕ}
 use mathlib.Core.Path.{◌≡◌, sym, ◌∙◌}
 use mathlib.Core.Bool.{Bool, true, false}
 use borrow.Author.Tests.{eq-eqb, ne_eqb}
-use Rattle.lists.specs.Words.{if◌then◌else◌}
 use Rattle.grant.proofs.asked_by.Goals as goal
 
 chosen : (b : Bool) (w : ℕ) → b ≡ true → (if b then w else 0) ≡ w

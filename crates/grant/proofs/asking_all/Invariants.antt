@@ -1,7 +1,7 @@
 -- The loop fills two arrays place by place: each turn finds the segment that one train asks for, and reads its count.
+use Rattle.std.specs.Prelude.{if◌then◌else◌}
 use Prim.Native.Nat.{ℕ, ◌-◌}
 use lib.Dec.{eqb}
-use Rattle.lists.specs.Words.{if◌then◌else◌}
 use Rattle.lists.proofs.Loops.{Made}
 use Rattle.trains.specs.declared.Train.{Train}
 use Rattle.trains.specs.Train.{wanted_in}

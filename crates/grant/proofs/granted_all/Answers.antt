@@ -1,5 +1,6 @@
 -- The foremost train that has a segment in the list of what each asks for is the one that the definition serves with it; a segment that
 -- is held stays with its holder.
+use Rattle.std.specs.Prelude.{if◌then◌else◌}
 use Prim.Native.Nat.{ℕ}
 use mathlib.Core.Path.{◌≡◌, refl, sym, ap, ◌∙◌}
 use mathlib.Core.List.{List}
@@ -7,7 +8,7 @@ use lib.Dec.{eqb}
 use lib.ListN.{length}
 use native.Mathlib.Omega.{arith}
 use borrow.Author.Rules.{rules}
-use Rattle.lists.specs.Words.{if◌then◌else◌, at, each, tabulate, ◌or_else◌}
+use Rattle.lists.specs.Words.{at, each, tabulate, ◌or_else◌}
 use Rattle.lists.proofs.Cases.{cases, lt_or_le, or_if}
 use Rattle.lists.proofs.Numbered.{nth_zero, nth_each, nth_tabulate, each_same}
 use Rattle.tables.specs.declared.Tables.{Tables}

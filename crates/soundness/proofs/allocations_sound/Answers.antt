@@ -1,3 +1,4 @@
+use Rattle.std.specs.Prelude.{if◌then◌else◌}
 use Prim.Native.Nat.{ℕ, ◌+◌, ◌≤◌}
 use mathlib.Core.Path.{◌≡◌, sym, ap, ◌∙◌}
 use mathlib.Core.Bool.{◌||◌}
@@ -6,7 +7,7 @@ use native.Mathlib.Omega.{arith}
 use lib.Dec.{eqb}
 use lib.ListN.{length}
 use borrow.Author.Rules.{rules}
-use Rattle.lists.specs.Words.{if◌then◌else◌, at}
+use Rattle.lists.specs.Words.{at}
 use Rattle.lists.proofs.Loops.{every_same}
 use Rattle.lists.proofs.Numbered.{nth_index, nth_each_in, length_each}
 use Rattle.lists.proofs.Some.{none_some, some_next}
