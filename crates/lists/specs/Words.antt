@@ -1,5 +1,5 @@
 -- The words that the definitions of all crates are written in. Entries of a list are counted from 1, and 0 stands for none.
-use Rattle.std.specs.Prelude.{ℕ, zero, suc, Bool, true, false, not, ◌&&◌, List, [], ◌∷◌, ltb, get_or, if◌then◌else◌}
+use Rattle.std.specs.Prelude.{ℕ, zero, suc, Bool, true, not, ◌&&◌, List, [], ◌∷◌, ltb, get_or, if◌then◌else◌}
 
 module _ {A : Type 0} (none : A) where
   -- entry n of a list; `none` where the list has no entry n

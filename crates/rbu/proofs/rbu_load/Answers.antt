@@ -1,5 +1,4 @@
 use mathlib.Core.Path.{ap, ◌∙◌}
-use borrow.Author.Rules.{rules}
 use Rattle.area.specs.declared.Outcome.{Outcome}
 use Rattle.answers.specs.Answers.{number_of, place_of}
 use Rattle.rbu.proofs.rbu_load.Goals as goal

@@ -1,5 +1,4 @@
 -- Load's number decides: at 0 the state of the run is written, at any other the buffer stays as it was; the rest is what `run_file` gives.
-use borrow.Author.Rules.{rules}
 use Rattle.rbu.proofs.Laws.{told_done, told_refused}
 use Rattle.rbu.proofs.rbu_run_file.Goals as goal
 

@@ -1,5 +1,4 @@
 -- The record is the one that the bytes spell, the run is the script's from that record, and what is written is the state that it comes to.
-use borrow.Author.Rules.{rules}
 use Rattle.rbu.proofs.Laws.{record_told}
 use Rattle.rbu.proofs.rbu_run_record.Goals as goal
 

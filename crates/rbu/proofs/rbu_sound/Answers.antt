@@ -1,5 +1,4 @@
 use mathlib.Core.Path.{ap, ◌∙◌}
-use borrow.Author.Rules.{rules}
 use Rattle.area.specs.Sound.{sound}
 use Rattle.rbu.proofs.rbu_sound.Goals as goal
 

@@ -1,5 +1,4 @@
 -- What is written is of the record that the file and the state spell.
-use borrow.Author.Rules.{rules}
 use Rattle.rbu.proofs.rbu_write_record.Goals as goal
 
 pub returns : goal.returns
