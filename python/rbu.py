@@ -340,6 +340,11 @@ def _try_layout():
     file, place = _file_of(expected.tables), _u16()
     compare(_library.rbu_start(record, file, len(file), place))
 
+    # a start may have cleared the padding: the last three bytes of each train and of the record, which no field may reach into
+    for after in (*(Record.trains.offset + ctypes.sizeof(RecordTrain) * t for t in range(1, TRAINS + 1)), RECORD_SIZE):
+        ctypes.memset(ctypes.addressof(record) + after - 3, 0xA5, 3)
+    compare()
+
     # train 23 stands on segment 2, the next of train 24
     expected.trains[23] = RecordTrain(route=1, place=1, speed=401, length=20_000)
     expected.trains[22] = RecordTrain(route=2, place=1, length=300)

@@ -603,6 +603,7 @@ class Imports(unittest.TestCase):
             [('("gmax", _u16)', '("GMAX", _u16)'), ('("braking", _u16)', '("gmax", _u16)'), ('("GMAX", _u16)', '("braking", _u16)')],
             [('("next", ', '("NEXT", '), ('("previous", ', '("next", '), ('("NEXT", ', '("previous", ')],
             [('("due", _u8)', '("due", _u32)')],
+            [('("asks", _u8)', '("asks", _u32)')],
         ):
             self.copied(*changes)
             self.assertEqual(self.imported(rbu.LIBRARY), says, f"{changes}")
