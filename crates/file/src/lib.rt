@@ -2,3 +2,6 @@
 #![tactic(auto)]
 
 pub const FILE_SIZE: usize = 2560;
+
+// A file of that size.
+pub type File = [u8; 2560];

@@ -1,5 +1,5 @@
 -- The words that the definitions of all crates are written in. Entries of a list are counted from 1, and 0 stands for none.
-use Rattle.std.specs.Prelude.{ℕ, zero, suc, Bool, true, not, ◌&&◌, List, [], ◌∷◌, ltb, get_or, if◌then◌else◌}
+use Rattle.std.specs.Prelude.{ℕ, zero, suc, Bool, true, not, ◌&&◌, List, [], ◌∷◌, Option, Some, None, ltb, get_or, if◌then◌else◌}
 
 module _ {A : Type 0} (none : A) where
   -- entry n of a list; `none` where the list has no entry n
@@ -45,3 +45,8 @@ some n p = ltb 0 (least n p)
 -- the first of the numbers 1 to n for which the test fails; 0 where it fails for none
 abbrev pub first_failing : ℕ → (ℕ → Bool) → ℕ
 first_failing n p = least n (λ (k : ℕ). not (p k))
+
+-- a number that was looked for, as an option: none where it is 0
+abbrev pub found : ℕ → Option ℕ
+found zero = None
+found (suc n) = Some (suc n)

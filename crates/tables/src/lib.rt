@@ -1,5 +1,12 @@
-// The tables of an area by value.
+// The tables of an area by value, and what they say of a segment and of a route. Segments, routes and places are counted from 1; what the
+// tables do not have is zero. Tables are lent, so that none is copied.
 #![tactic(auto)]
+
+ghost use Rattle.std.specs.Prelude.{◌≡◌};
+ghost use Rattle.lists.specs.Words.{at};
+ghost use Rattle.tables.specs.Tables.{first_link, second_link, links_to, segment_of, count_of, segment_at, blank_tables};
+
+use lists::entry;
 
 // The bounds of documents 01, "The area file", and 02, R-3.
 pub const MOST_SEGMENTS: u8 = 62;
@@ -31,7 +38,7 @@ pub struct Tables {
 }
 
 // What the tables keep of one segment record.
-#[derive(Clone, Copy)]
+#[derive(Clone, Copy, Debug, Default, PartialEq, Eq)]
 pub struct Segment {
     pub length: u32,
     pub limit: u16,
@@ -40,4 +47,101 @@ pub struct Segment {
     pub previous1: u8,
     pub previous2: u8,
     pub flags: u8,
+}
+
+// ---- the links of a segment, of next or of previous ones
+pub fn first_link(links: &[u8; 124], s: u8) -> u8
+    ensures { result ≡ first_link links.now s }
+{
+    entry(links, (2 * s as usize).saturating_sub(1), 0)
+}
+
+pub fn second_link(links: &[u8; 124], s: u8) -> u8
+    ensures { result ≡ second_link links.now s }
+{
+    entry(links, 2 * s as usize, 0)
+}
+
+// One test of the segment's number for both links, which are then read straight: every call asks this of every link and place.
+pub fn links_to(links: &[u8; 124], s: u8, n: u8) -> bool
+    ensures { result ≡ links_to links.now s n }
+{
+    if (1 <= s) & (s <= MOST_SEGMENTS) {
+        let i = 2 * (s as usize) - 2;
+        if links[i] == n {
+            return true;
+        }
+        return links[i + 1] == n;
+    }
+    (first_link(links, s) == n) | (second_link(links, s) == n)
+}
+
+impl Tables {
+    // All zero.
+    #[tactic(auto, unfolding(crate::specs::Tables::blank_tables))]
+    pub fn blank() -> Tables
+        ensures { result ≡ blank_tables }
+    {
+        Tables {
+            segments: 0,
+            routes: 0,
+            gmax: 0,
+            braking: 0,
+            margin: 0,
+            lengths: [0; 62],
+            limits: [0; 62],
+            next: [0; 124],
+            previous: [0; 124],
+            flags: [0; 62],
+            routebytes: [0; 960],
+        }
+    }
+
+    // ---- a segment
+    pub fn length(&self, s: u8) -> u32
+        ensures { result ≡ at self.now.lengths s }
+    {
+        entry(&self.lengths, s as usize, 0)
+    }
+
+    pub fn limit(&self, s: u8) -> u16
+        ensures { result ≡ at self.now.limits s }
+    {
+        entry(&self.limits, s as usize, 0)
+    }
+
+    pub fn flags_of(&self, s: u8) -> u8
+        ensures { result ≡ at self.now.flags s }
+    {
+        entry(&self.flags, s as usize, 0)
+    }
+
+    pub fn segment(&self, s: u8) -> Segment
+        ensures { result ≡ segment_of self.now s }
+    {
+        Segment {
+            length: self.length(s),
+            limit: self.limit(s),
+            next1: first_link(&self.next, s),
+            next2: second_link(&self.next, s),
+            previous1: first_link(&self.previous, s),
+            previous2: second_link(&self.previous, s),
+            flags: self.flags_of(s),
+        }
+    }
+
+    // ---- a route: how many segments it has, and the one at a place of it
+    #[tactic(auto, unfolding(crate::specs::Tables::count_of))]
+    pub fn count(&self, r: u8) -> u8
+        ensures { result ≡ count_of self.now.routebytes r }
+    {
+        entry(&self.routebytes, (32 * r as usize).saturating_sub(31), 0)
+    }
+
+    #[tactic(auto, unfolding(crate::specs::Tables::segment_at))]
+    pub fn segment_at(&self, r: u8, p: u8) -> u8
+        ensures { result ≡ segment_at self.now.routebytes r p }
+    {
+        entry(&self.routebytes, (32 * r as usize).saturating_sub(31) + p as usize, 0)
+    }
 }

@@ -1,0 +1,46 @@
+-- A segment of 1 to 62 has its two links at the indices 2 * s - 2 and 2 * s - 1, which are read straight; of any other number both are
+-- looked up.
+use Prim.Native.Nat.{ℕ, ◌+◌, ◌-◌, ◌*◌, ◌≤◌}
+use mathlib.Core.Path.{◌≡◌}
+use mathlib.Core.List.{List}
+use mathlib.Core.Bool.{◌||◌}
+use native.Mathlib.Omega.{arith}
+use lib.Dec.{eqb}
+use lib.ListN.{get_or}
+use borrow.Author.Tests.{eq-eqb, ne_eqb}
+use Rattle.lists.proofs.Cases.{facts}
+use Rattle.lists.proofs.Numbered.{nth_in}
+use Rattle.tables.specs.Tables.{links_to}
+use Rattle.tables.proofs.links_to.Goals as goal
+
+-- the two links of segment s, by their indices
+by_index : (links : List ℕ) (s n : ℕ) → 1 ≤ s → links_to links s n ≡ (eqb (get_or links (2 * s - 2) 0) n || eqb (get_or links (2 * s - 2 + 1) 0) n)
+unfolding links_to
+by_index links s n h =
+    let e : 2 * s - 1 - 1 ≡ 2 * s - 2 = omega arith in
+    let f : 2 * s - 1 ≡ 2 * s - 2 + 1 = omega arith in
+    rw (nth_in 0 links (2 * s - 1) (omega arith), nth_in 0 links (2 * s) (omega arith), e, f)
+
+pub overflow_sub-i : goal.overflow_sub-i
+overflow_sub-i c = let f = simp facts at c.if-s.true in omega arith
+
+pub bounds-links-i : goal.bounds-links-i
+bounds-links-i c = let f = simp facts at c.if-s.true in omega arith
+
+pub returns-then-links-i : goal.returns-then-links-i
+returns-then-links-i c =
+    let f = simp facts at c.if-s.true in rw (by_index c.args.links.now c.args.s c.args.n f.0, eq-eqb _ _ c.if-links-i.true)
+
+pub overflow_add-result : goal.overflow_add-result
+overflow_add-result c = let f = simp facts at c.if-s.true in omega arith
+
+pub bounds-links-i-then-s : goal.bounds-links-i-then-s
+bounds-links-i-then-s c = let f = simp facts at c.if-s.true in omega arith
+
+pub returns-then-s : goal.returns-then-s
+returns-then-s c =
+    let f = simp facts at c.if-s.true in rw (by_index c.args.links.now c.args.s c.args.n f.0, ne_eqb _ _ c.if-links-i.false)
+
+pub returns : goal.returns
+unfolding links_to
+returns c = simp (c.first_link.ensures, c.second_link.ensures)
