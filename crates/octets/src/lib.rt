@@ -8,7 +8,7 @@ ghost use Rattle.file.specs.Bytes.{byte_at, two_at, four_at, two, four, zeros, p
 pub fn byte(s: &[u8], at: usize) -> u8
     ensures { result ≡ byte_at s.now at }
 {
-    if at < s.len() { s[at] } else { 0 }
+    s.get(at).copied().unwrap_or(0)
 }
 
 // The place of a number is narrower than the sums on it, so that none can wrap.
@@ -16,38 +16,27 @@ pub fn two_at(s: &[u8], at: u32) -> u16
     ensures { result ≡ two_at s.now at }
 {
     let i = at as usize;
-    let low = byte(s, i);
-    let high = byte(s, i + 1);
-    (low as u16) + 256 * (high as u16)
+    u16::from_le_bytes([byte(s, i), byte(s, i + 1)])
 }
 
 pub fn four_at(s: &[u8], at: u16) -> u32
     ensures { result ≡ four_at s.now at }
 {
-    let i = at as u32;
-    let low = two_at(s, i);
-    let high = two_at(s, i + 2);
-    (low as u32) + 65536 * (high as u32)
+    let i = at as usize;
+    u32::from_le_bytes([byte(s, i), byte(s, i + 1), byte(s, i + 2), byte(s, i + 3)])
 }
 
 // A number as two bytes and as four, the least first.
 pub fn two(n: u16) -> [u8; 2]
     ensures { result ≡ two n }
 {
-    [(n % 256) as u8, (n / 256) as u8]
+    n.to_le_bytes()
 }
 
-pub fn four(n: u32) -> [u8; 4]
-    ensures { result ≡ four n }
+pub fn four(m: u32) -> [u8; 4]
+    ensures { result ≡ four m }
 {
-    let low = n % 65536;
-    let high = n / 65536;
-    [
-        (low % 256) as u8,
-        (low / 256) as u8,
-        (high % 256) as u8,
-        (high / 256) as u8,
-    ]
+    m.to_le_bytes()
 }
 
 // Puts a row of bytes into a buffer from a place on, as far as that has room.
@@ -55,13 +44,9 @@ pub fn put(buffer: &mut [u8], at: u16, row: &[u8])
     ensures { buffer.new ≡ put_at at row.now buffer.old }
 {
     let start = at as usize;
-    let mut j: usize = 0;
-    while j < row.len() {
-        if buffer.len() <= start + j {
-            return;
-        }
-        buffer[start + j] = row[j];
-        j += 1;
+    if start < buffer.len() {
+        let count = row.len().min(buffer.len() - start);
+        buffer[start..start + count].copy_from_slice(&row[..count]);
     }
 }
 
@@ -69,14 +54,10 @@ pub fn put(buffer: &mut [u8], at: u16, row: &[u8])
 pub fn are_zeros(s: &[u8], first: u16, last: u16) -> bool
     ensures { result ≡ zeros s.now first last }
 {
-    let from = first as usize;
-    let end = last as usize + 1;
-    let mut i = from;
-    while i < end {
-        if byte(s, i) != 0 {
+    for i in first..=last {
+        if byte(s, i as usize) != 0 {
             return false;
         }
-        i += 1;
     }
     true
 }

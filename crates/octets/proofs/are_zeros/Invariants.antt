@@ -1,5 +1,5 @@
 -- The loop stops at the first byte that is not zero, which makes the test false; where it comes to the end, every byte was zero.
-use Prim.Native.Nat.{max, ℕ, ◌+◌, ◌-◌, ◌≤◌}
+use Prim.Native.Nat.{ℕ, ◌+◌, ◌-◌}
 use mathlib.Core.Path.{◌≡◌}
 use mathlib.Core.Bool.{Bool, true}
 use mathlib.Core.List.{List}
@@ -12,7 +12,4 @@ abbrev pub zeroAt : List ℕ → ℕ → ℕ → Bool
 zeroAt s first k = eqb (byte_at s (first + k - 1)) 0
 
 abbrev pub invariant-loop-i : goal.invariant-loop-i
-invariant-loop-i l = (l.first ≤ l.i) × (l.i ≤ max l.first (l.last + 1)) × (every (l.i - l.first) (zeroAt l.s l.first) ≡ true)
-
-abbrev pub decreases-loop-i : goal.decreases-loop-i
-decreases-loop-i l = l.end - l.i
+invariant-loop-i l = every (l.i - l.first) (zeroAt l.s l.first) ≡ true
