@@ -1,52 +1,51 @@
--- The laws of the allocations' word: the loop that builds it, the count of its ones, and the zeros below the lowest one of its
+-- The laws of the allocations' word: the fold that builds it, the count of its ones, and the zeros below the lowest one of its
 -- complement.
 use Rattle.std.specs.Prelude.{if◌then◌else◌}
 use Prim.Native.Nat.{ℕ, zero, suc, ◌+◌, ◌-◌, ◌*◌, ◌/◌, ◌%◌, ◌^◌, ◌≤◌, ◌<◌}
 use mathlib.Core.Path.{◌≡◌, refl}
-use mathlib.Core.Bool.{Bool, true, false}
-use mathlib.Core.List.{List, [], ◌∷◌}
+use mathlib.Core.Bool.{Bool, true, false, not}
+use mathlib.Core.List.{List, [], ◌∷◌, reverse, reverse-cons}
 use native.Mathlib.Nat.{pow-suc}
-use native.Mathlib.Numerals.{add-one, sub-one}
+use native.Mathlib.Numerals.{add-one}
 use native.Mathlib.Omega.{arith}
-use lib.Count.{ones, ones_step, ones-le, count_trailing_zeros, trailing_le, under}
-use lib.ListN.{length, drop, get_or, length-drop}
+use lib.Count.{ones, ones_step, count_trailing_zeros, under}
+use lib.ListN.{length, get_or}
 use lib.Pow.{pow_mono, pow_pos}
-use lib.Seq.{drop-cons, drop-length}
+use Rattle.std.specs.List.{fold}
+use Rattle.std.specs.Int.Bits.{bit_or}
+use Rattle.std.proofs.lemmas.Nat.{or_shifted}
+use Rattle.std.proofs.lemmas.List.Sums.{fold_push}
 use Rattle.lists.specs.Words.{at, least}
 use Rattle.lists.proofs.Numbered.{nth_index}
 use Rattle.lists.proofs.Loops.{least_nothing, least_more, least_found}
-use Rattle.lists.proofs.Cases.{if_case}
+use Rattle.lists.proofs.Cases.{if_case, by_test}
 use Rattle.summary.specs.Summary.{is_free, allocated_in}
 use Rattle.summary.specs.Word.{bit_of, word_of}
 
 bit_lt : (h : ℕ) → bit_of h < 2
 unfolding bit_of
-bit_lt h = if_case (λ (b : ℕ). b < 2) (is_free h) (λ e. omega arith) (λ e. omega arith)
-
-pub bit_small : (h b : ℕ) → b ≡ bit_of h → b < 2
-bit_small h b e = rw e (bit_lt h)
+bit_lt h = by_test (is_free h) (λ e. rw e (omega arith)) (λ e. rw e (omega arith))
 
 word_lt : (A : List ℕ) → word_of A < 2 ^ length A
 unfolding word_of
 word_lt [] = omega arith
 word_lt (h ∷ A) = rw pow-suc (omega (arith, word_lt A, bit_lt h))
 
--- the loop that takes the segments from the highest to the lowest: it begins, it goes on, it is over, and its word fits
-pub word_begin : (A : List ℕ) (n : ℕ) → length A ≡ n → 0 ≡ word_of (drop n A)
+-- a segment's bit goes in below those of the segments above it; none of 64 is shifted out
+abbrev pub with_bit : (word h : ℕ) → ℕ
+with_bit word h = bit_or (word * 2 ^ 1 % 2 ^ 64) (bit_of h)
+
+with_bit_is : (word h : ℕ) → word < 2 ^ 63 → with_bit word h ≡ word * 2 + bit_of h
+with_bit_is word h fits =
+    let whole : word * 2 ^ 1 % 2 ^ 64 ≡ word * 2 ^ 1 = omega arith in
+    rw whole (or_shifted word 1 (bit_of h) (bit_lt h))
+
+pub word_folded : (A : List ℕ) → length A < 64 → fold with_bit 0 (reverse A) ≡ word_of A
 unfolding word_of
-word_begin A n e = rw (← e, drop-length)
-
-pub word_step : (A : List ℕ) (i w b : ℕ) → 0 < i → i ≤ length A → w ≡ word_of (drop i A) → b ≡ bit_of (get_or A (i - 1) 0) → w * 2 + b ≡ word_of (drop (i - 1) A)
-unfolding word_of
-word_step A zero w b p h e q = absurd (omega arith)
-word_step A (suc i) w b p h e q = rw (e, q, sub-one, drop-cons A i 0)
-
-pub word_over : (A : List ℕ) (i w : ℕ) → i ≤ 0 → w ≡ word_of (drop i A) → w ≡ word_of A
-word_over A zero w h e = e
-word_over A (suc i) w h e = absurd (omega arith)
-
-pub word_fits : (A : List ℕ) (i w : ℕ) → length A ≡ 62 → w ≡ word_of (drop i A) → w < 2 ^ 62
-word_fits A i w h e = let m : length (drop i A) ≤ 62 = rw length-drop (omega arith) in omega (arith, word_lt (drop i A), pow_mono m)
+word_folded [] fits = refl
+word_folded (h ∷ A) fits =
+    let w : word_of A < 2 ^ 63 = omega (arith, word_lt A, pow_mono {i = length A} {j = 63} (omega arith)) in
+    rw (reverse-cons h A, fold_push with_bit 0 (reverse A) h, word_folded A (omega arith)) (with_bit_is (word_of A) h w)
 
 -- the ones are the allocated segments
 half : (w b : ℕ) → b < 2 → (w * 2 + b) / 2 ≡ w
@@ -55,10 +54,14 @@ half w b h = omega arith
 odd : (w b : ℕ) → b < 2 → (w * 2 + b) % 2 ≡ b
 odd w b h = omega arith
 
+bit_counted : (f : Bool) → ◌≡◌ {A = ℕ} (if not f then 1 else 0) (if f then 0 else 1)
+bit_counted true = refl
+bit_counted false = refl
+
 ones_word : (A : List ℕ) → ones (word_of A) ≡ allocated_in A
 unfolding word_of allocated_in bit_of ones
 ones_word [] = refl
-ones_word (h ∷ A) = rw (ones_step, odd (word_of A) (bit_of h) (bit_lt h), half (word_of A) (bit_of h) (bit_lt h), ones_word A)
+ones_word (h ∷ A) = rw (ones_step, odd (word_of A) (bit_of h) (bit_lt h), half (word_of A) (bit_of h) (bit_lt h), ones_word A, bit_counted (is_free h))
 
 pub ones_of : (A : List ℕ) (w : ℕ) → w ≡ word_of A → ones w ≡ allocated_in A
 ones_of A w e = rw e (ones_word A)
@@ -75,7 +78,7 @@ low k w b h g = rw pow-suc (omega arith)
 rest : (k w b : ℕ) → w < 2 ^ k → b < 2 → ((2 ^ suc k - 1) - (w * 2 + b)) / 2 ≡ (2 ^ k - 1) - w
 rest k w b h g = rw pow-suc (omega arith)
 
-under_bit : (f : Bool) (t : ℕ) → under (1 - (if f then 0 else 1)) t ≡ (if f then 0 else suc t)
+under_bit : (f : Bool) (t : ℕ) → under (1 - (if not f then 1 else 0)) t ≡ (if f then 0 else suc t)
 under_bit true t = refl
 under_bit false t = refl
 
@@ -109,13 +112,6 @@ free_at : (A : List ℕ) → is_free (get_or A (taken A) 0) ≡ true
 unfolding taken
 free_at [] = refl
 free_at (h ∷ A) = if_case (λ (t : ℕ). is_free (get_or (h ∷ A) t 0) ≡ true) (is_free h) (λ e. e) (λ e. free_at A)
-
--- both counts of 64 bits fit a byte
-pub ones_fit : (w : ℕ) → w < 2 ^ 64 → ones w < 256
-ones_fit w h = omega (arith, ones-le 64 w h)
-
-pub zeros_fit : (w : ℕ) → count_trailing_zeros 64 w < 256
-zeros_fit w = omega (arith, trailing_le 64 w)
 
 module _ (A : List ℕ) where
   abbrev pub free_in : ℕ → Bool

@@ -3,46 +3,33 @@
 
 ghost use Rattle.std.specs.Prelude.{◌≡◌};
 ghost use Rattle.summary.specs.Summary.{summary_of};
-ghost use Rattle.summary.specs.Word.{bit_of, word_of};
+ghost use Rattle.summary.specs.Word.{word_of};
 
-#[derive(Clone, Copy)]
+#[derive(Clone, Copy, Debug, Default, PartialEq, Eq)]
 pub struct Summary {
     pub allocated: u8,
     pub free: u8,
 }
 
-fn bit_of(allocation: u8) -> u64
-    ensures { result ≡ bit_of allocation }
-{
-    if allocation == 0 { 0 } else { 1 }
-}
-
 // The highest segment's bit goes in first.
-fn word_of(allocations: [u8; 62]) -> u64
-    ensures { result ≡ word_of allocations }
+fn word_of(allocations: &[u8; 62]) -> u64
+    ensures { result ≡ word_of allocations.now }
 {
-    let mut word: u64 = 0;
-    let mut i: usize = 62;
-    while 0 < i {
-        i -= 1;
-        word = word * 2 + bit_of(allocations[i]);
-    }
-    word
+    allocations
+        .iter()
+        .rev()
+        .fold(0, |word, h| word << 1 | u64::from(*h != 0))
 }
 
 // The allocated segments counted as ones of the word, and the least free segment of n by the zeros below the lowest one of its
 // complement.
-pub fn summary_of(allocations: [u8; 62], n: u8) -> Summary
-    ensures { result ≡ summary_of allocations n }
+pub fn summary_of(allocations: &[u8; 62], n: u8) -> Summary
+    ensures { result ≡ summary_of allocations.now n }
 {
     let word = word_of(allocations);
-    let allocated = u64::count_ones(word) as u8;
-    let taken = u64::trailing_zeros(!word) as u8;
-    if taken < n {
-        return Summary {
-            allocated,
-            free: taken + 1,
-        };
+    let taken = (!word).trailing_zeros() as u8;
+    Summary {
+        allocated: word.count_ones() as u8,
+        free: if taken < n { taken + 1 } else { 0 },
     }
-    Summary { allocated, free: 0 }
 }
