@@ -1,37 +1,38 @@
-// Rules 4 to 6 of a header and of one segment record.
+// Rules 4 to 6 of the tables: of the header's numbers and of one segment record.
 #![tactic(auto)]
 
-ghost use Rattle.std.specs.Prelude.{◌≡◌, ◌≤◌, leb};
+ghost use Rattle.std.specs.Prelude.{◌≡◌, ◌≤◌};
 ghost use Rattle.tables.specs.Bounds.{bounds};
-ghost use Rattle.tables.specs.Tables.{distance_in};
-ghost use Rattle.tables.specs.Rules.{header_in, links_ok, used_ok, unused_ok, row_ok};
+ghost use Rattle.tables.specs.Rules.{header_ok, margin_ok, links_ok, used_ok, segment_ok};
 
-use tables::{FASTEST, LONGEST, MOST_ROUTES, MOST_SEGMENTS, Segment};
+use tables::{FASTEST, LONGEST, MOST_ROUTES, MOST_SEGMENTS, Segment, Tables};
 
 // ---- rules 4 and 5
-pub fn header_ok(segments: u8, routes: u8, gmax: u16, braking: u16, margin: u32) -> bool
-    ensures { result ≡ header_in bounds segments routes gmax braking margin }
+#[tactic(auto, unfolding(tables::specs::Rules::header_in))]
+pub fn header_ok(t: &Tables) -> bool
+    ensures { result ≡ header_ok bounds t.now }
 {
-    (1 <= segments)
-        & (segments <= MOST_SEGMENTS)
-        & (1 <= routes)
-        & (routes <= MOST_ROUTES)
-        & (1 <= gmax)
-        & (gmax <= FASTEST)
-        & (1 <= braking)
-        & (braking <= gmax)
-        & (1 <= margin)
-        & (margin <= LONGEST)
+    (1 <= t.segments)
+        & (t.segments <= MOST_SEGMENTS)
+        & (1 <= t.routes)
+        & (t.routes <= MOST_ROUTES)
+        & (1 <= t.gmax)
+        & (t.gmax <= FASTEST)
+        & (1 <= t.braking)
+        & (t.braking <= t.gmax)
+        & (1 <= t.margin)
+        & (t.margin <= LONGEST)
 }
 
-pub fn margin_ok(gmax: u16, braking: u16, margin: u32) -> bool
-    requires { 1 ≤ braking }
-    ensures { result ≡ leb (distance_in braking gmax) margin }
+pub fn margin_ok(t: &Tables) -> bool
+    requires { 1 ≤ t.now.braking }
+    ensures { result ≡ margin_ok t.now }
 {
-    braking::braking_distance(gmax, braking) <= margin
+    braking::braking_distance(t.gmax, t.braking) <= t.margin
 }
 
 // ---- rule 6
+#[tactic(auto, unfolding(tables::specs::Rules::links_ok))]
 fn links_ok(n: u8, first: u8, second: u8) -> bool
     ensures { result ≡ links_ok n first second }
 {
@@ -39,38 +40,28 @@ fn links_ok(n: u8, first: u8, second: u8) -> bool
 }
 
 // Of tables handed in nothing is known, so the sum is of 64 bits.
-fn used_ok(n: u8, gmax: u16, margin: u32, s: Segment) -> bool
-    ensures { result ≡ used_ok bounds n gmax margin s }
+#[tactic(auto, unfolding(tables::specs::Rules::used_ok))]
+fn used_ok(t: &Tables, s: Segment) -> bool
+    ensures { result ≡ used_ok bounds t.now.segments t.now.gmax t.now.margin s }
 {
-    let shortest = (margin as u64) + (gmax as u64);
-    let length = s.length as u64;
-    (shortest < length)
+    let shortest = u64::from(t.margin) + u64::from(t.gmax);
+    (shortest < u64::from(s.length))
         & (s.length <= LONGEST)
-        & (1 <= s.limit)
-        & (s.limit <= gmax)
-        & links_ok(n, s.next1, s.next2)
-        & links_ok(n, s.previous1, s.previous2)
+        & (1..=t.gmax).contains(&s.limit)
+        & links_ok(t.segments, s.next1, s.next2)
+        & links_ok(t.segments, s.previous1, s.previous2)
         & (s.flags <= 3)
 }
 
-fn unused_ok(s: Segment) -> bool
-    ensures { result ≡ unused_ok s }
+// What is kept of segment record k; a record above the last segment is all zero.
+#[tactic(auto, unfolding(tables::specs::Rules::row_ok, tables::specs::Rules::unused_ok))]
+pub fn segment_ok(t: &Tables, k: u8) -> bool
+    ensures { result ≡ segment_ok bounds t.now k }
 {
-    (s.length == 0)
-        & (s.limit == 0)
-        & (s.next1 == 0)
-        & (s.next2 == 0)
-        & (s.previous1 == 0)
-        & (s.previous2 == 0)
-        & (s.flags == 0)
-}
-
-// What is kept of segment record k.
-pub fn row_ok(n: u8, gmax: u16, margin: u32, k: u8, s: Segment) -> bool
-    ensures { result ≡ row_ok bounds n gmax margin k s }
-{
-    if k <= n {
-        return used_ok(n, gmax, margin, s);
+    let s = t.segment(k);
+    if k <= t.segments {
+        used_ok(t, s)
+    } else {
+        s == Segment::default()
     }
-    unused_ok(s)
 }
