@@ -10,4 +10,4 @@ pub returns : goal.returns
 unfolding block
 returns c =
     let e : 512 * c.args.k + 512 - 512 * c.args.k ≡ 512 = omega arith in
-    (ap (λ (n : ℕ). take n (drop (512 * c.args.k) c.args.file.now)) e, simp (length-take, length-drop) (omega arith))
+    (ap (λ (n : ℕ). take n (drop (512 * c.args.k) c.args.file.now)) e, simp (length-take, length-drop) (omega (arith, c.told-file)))

@@ -3,7 +3,8 @@ use mathlib.Core.List.{List}
 use mathlib.Core.Path.{◌≡◌, refl, ap, ◌∙◌}
 use native.Mathlib.Nat.{mod-add-mod, add-mod-mod}
 use native.Mathlib.Omega.{arith}
-use lib.ListN.{length, take}
+use lib.ListN.{length, take, length-take}
+use lib.Seq.{get_or-take}
 use Rattle.lists.proofs.Loops.{fold_more}
 use Rattle.file.specs.Bytes.{byte_at}
 use Rattle.file.specs.Blocks.{Sums, sums, add_byte}
@@ -20,25 +21,17 @@ sums-more s i first second below before =
     fold_more add_byte (record { first = 0; second = 0 }) s i 0 below ∙ ap (λ (z : Sums). add_byte z b) before
     ∙ simp (mod-add-mod, add-mod-mod)
 
-pub loop-i-init : goal.loop-i-init
+pub slice_bounds-byte-items-end : goal.slice_bounds-byte-items-end
+slice_bounds-byte-items-end c = simp length-take (omega arith)
+
+pub loop-byte-init : goal.loop-byte-init
 unfolding sums
-loop-i-init c = (omega arith, omega arith, omega arith, refl)
+loop-byte-init c = (omega arith, omega arith, omega arith, refl)
 
-pub overflow_cast-first : goal.overflow_cast-first
-overflow_cast-first c = omega (arith, c.type_inv.block c.loop-i.i)
-
-pub overflow_add-first : goal.overflow_add-first
-overflow_add-first c = omega (arith, c.type_inv.block c.loop-i.i)
-
-pub overflow_add-second : goal.overflow_add-second
-overflow_add-second c = omega (arith, c.type_inv.block c.loop-i.i)
-
-pub loop-i-preserved : goal.loop-i-preserved
-loop-i-preserved c =
-    let b = c.type_inv.block c.loop-i.i in
-    (omega arith, omega arith, omega arith, sums-more _ c.loop-i.i _ _ (omega arith) c.loop-i.invariant.3)
-
-pub returns : goal.returns
-returns c =
-    let e : c.loop-i.i ≡ 510 = omega arith in
-    rw (rw e at c.loop-i.invariant.3)
+pub loop-byte-preserved : goal.loop-byte-preserved
+loop-byte-preserved c =
+    let i = c.loop-byte.byte-index in
+    let long : length (take 510 c.args.block.now) ≡ 510 = simp length-take (omega arith) in
+    let below : i < 510 = omega (arith, long) in
+    let fits : byte_at (take 510 c.args.block.now) i < 256 = rw (get_or-take 510 c.args.block.now i 0 below) (omega (arith, c.type_inv.block i)) in
+    (omega arith, omega (arith, fits), omega (arith, fits), sums-more _ i _ _ (omega (arith, long)) c.loop-byte.invariant.3)
