@@ -26,10 +26,8 @@ fn unread(reason: io::Error) -> Input
 
 // The system's words for an error: std puts its number after them, as in `No such file or directory (os error 2)`.
 fn words_of(text: &str) -> &str {
-    match text.split_once(" (os error ") {
-        Some((words, _)) => words,
-        None => text,
-    }
+    text.split_once(" (os error ")
+        .map_or(text, |(words, _)| words)
 }
 
 // Says why what has this name could not be read.
@@ -67,19 +65,14 @@ fn read_named<R: Files + Eprint>(rt: &R, name: &str, buffer: &mut [u8]) -> Input
 
 // The program's argument. A path is text for std, so that a name that is not cannot be opened.
 fn argument<'a>(rt: &impl Env, name: &'a mut [u8]) -> io::Result<&'a str> {
-    let n = match rt.arg(1, name) {
-        Ok(n) => n,
-        Err(FillError::TooLong) => {
-            return Err(io::Error::new(ErrorKind::InvalidFilename, "File name too long"));
-        }
-        Err(FillError::NotPresent) => {
-            return Err(io::Error::new(ErrorKind::InvalidInput, "Invalid argument"));
-        }
-    };
-    match str::from_utf8(&name[..n]) {
-        Ok(text) => Ok(text),
-        Err(_) => Err(io::Error::new(ErrorKind::InvalidFilename, "not text in UTF-8")),
-    }
+    let n = rt.arg(1, name).map_err(|error| match error {
+        FillError::TooLong => io::Error::new(ErrorKind::InvalidFilename, "File name too long"),
+        FillError::NotPresent => io::Error::new(ErrorKind::InvalidInput, "Invalid argument"),
+    })?;
+    str::from_utf8(&name[..n]).map_err(|_| io::Error::new(
+        ErrorKind::InvalidFilename,
+        "not text in UTF-8",
+    ))
 }
 
 fn read_argument<R: Env + Files + Eprint>(rt: &R, buffer: &mut [u8]) -> Input
@@ -121,5 +114,5 @@ pub fn read<R: Env + Files + io::Input + Eprint>(rt: &R, buffer: &mut [u8]) -> I
 
 // What a program prints in the place of what it would have said of the file.
 pub fn say_unread(rt: &impl Print) -> io::Result<()> {
-    rt.write_all(b"the input could not be read\n")
+    println!(rt; "the input could not be read")
 }

@@ -16,6 +16,5 @@ take-read at room n xs ys within fits =
 
 pub loop-count-preserved : goal.loop-count-preserved
 loop-count-preserved g c =
-    let read = c.read_once-once in
-    let joined = take-read c.loop-count.count (length c.loop-count.buffer - c.loop-count.count) read.result.count c.loop-count.buffer read.new.buffer c.loop-count.invariant.0 (search rules) in
-    (search rules, subst (Consumes _ _) joined (Consumes-trans _ _ _ _ _ c.loop-count.invariant.1 read.ensures.bytes))
+    let joined = take-read c.loop-count.count (length c.loop-count.buffer - c.loop-count.count) c.in-Ok.n c.loop-count.buffer c.read.new.buf c.loop-count.invariant.0 (search rules) in
+    (search rules, subst (Consumes _ _) joined (Consumes-trans _ _ _ _ _ c.loop-count.invariant.1 c.in-Ok.ensures.bytes.0))
