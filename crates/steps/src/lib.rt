@@ -1,145 +1,118 @@
 // What one train, and the allocation of one segment, becomes at speed, request and position; the tests of a step.
 #![tactic(auto)]
 
-ghost use Rattle.std.specs.Prelude.{◌≡◌, not, ◌∷◌, ◌+◌, ◌-◌, min, max, eqb, if◌then◌else◌};
+ghost use Rattle.std.specs.Prelude.{◌≡◌, eqb, length, if◌then◌else◌};
 ghost use Rattle.lists.specs.Words.{at};
-ghost use Rattle.lists.specs.Tests.{◌⇒◌, first_of};
-ghost use Rattle.trains.specs.Cycle.{due_tests, wish_tests, upper_end, new_speed, sped_at, requested_at, moves_in, moved_in};
+ghost use Rattle.lists.specs.Tests.{first_of};
+ghost use Rattle.answers.specs.Refusals.{told};
+ghost use Rattle.trains.specs.Due.{step_number};
+ghost use Rattle.trains.specs.Cycle.{due_tests, wish_tests, upper_end, new_speed, sped_at, requested_at, moved_in};
 ghost use Rattle.steps.specs.Room.{Room};
-ghost use Rattle.steps.specs.Left.{left_in};
+ghost use Rattle.steps.specs.Left.{left_of};
 
-use lists::entry_u8;
-use trains::{Spot, Train};
+use answers::Refusal;
+use lists::entry;
+use tables::Tables;
+use trains::{Spot, Step, Train};
 
-// ---- the number of the first test of a step that holds, 0 where none does; `ok` says whether the record is sound
-pub fn step_refusal(ok: bool, due: u8, step: u8) -> u8
-    ensures { result ≡ (first_of (not ok ⇒ 11 ∷ due_tests step due)).number }
+// ---- the tests of a step
+pub fn check_due(due: u8, step: Step) -> Result<(), Refusal>
+    ensures { told result ≡ first_of (due_tests (step_number step) due) }
 {
-    if !ok {
-        return 11;
+    if due == step.number() {
+        Ok(())
+    } else {
+        Err(Refusal::Turn)
     }
-    if due != step {
-        return 12;
-    }
-    0
 }
 
-pub fn speed_refusal(ok: bool, due: u8, wishes: usize) -> u8
-    ensures { result ≡ (first_of (not ok ⇒ 11 ∷ wish_tests due wishes)).number }
+pub fn check_wishes(due: u8, wishes: &[u16]) -> Result<(), Refusal>
+    ensures { told result ≡ first_of (wish_tests due (length wishes.now)) }
 {
-    if !ok {
-        return 11;
+    check_due(due, Step::Speed)?;
+    if wishes.len() == 24 {
+        Ok(())
+    } else {
+        Err(Refusal::Wishes)
     }
-    if due != 0 {
-        return 12;
-    }
-    if wishes != 24 {
-        return 21;
-    }
-    0
 }
 
 // ---- speed
-fn lowered(speed: u16, braking: u16) -> u16
-    ensures { result ≡ speed - braking }
-{
-    if speed <= braking { 0 } else { speed - braking }
-}
-
-fn smaller(a: u16, b: u16) -> u16
-    ensures { result ≡ min a b }
-{
-    if a < b { a } else { b }
-}
-
-fn larger(a: u16, b: u16) -> u16
-    ensures { result ≡ max a b }
-{
-    if a < b { b } else { a }
-}
-
 // The highest speed where a train stands: its own limit, and next's too where it is near and has next.
 fn upper_end(spot: Spot) -> u16
     ensures { result ≡ upper_end spot }
 {
-    if spot.near & spot.holds {
-        return smaller(spot.limit, spot.nextlimit);
+    if spot.near && spot.holds {
+        spot.limit.min(spot.nextlimit)
+    } else {
+        spot.limit
     }
-    spot.limit
 }
 
+#[tactic(auto, unfolding(trains::specs::Cycle::new_speed))]
 fn new_speed(braking: u16, spot: Spot, x: Train, wish: u16) -> u16
     ensures { result ≡ new_speed braking spot x wish }
 {
-    let low = lowered(x.speed, braking);
-    if spot.near & !spot.holds {
-        return low;
+    let low = x.speed.saturating_sub(braking);
+    if spot.near && !spot.holds {
+        low
+    } else {
+        low.max(upper_end(spot).min(wish))
     }
-    larger(low, smaller(upper_end(spot), wish))
 }
 
 pub fn sped_train(braking: u16, spot: Spot, wish: u16, x: Train) -> Train
     ensures { result ≡ sped_at braking spot wish x }
 {
-    if x.route == 0 {
-        return x;
+    if x.is_on() {
+        x.with_speed(new_speed(braking, spot, x, wish))
+    } else {
+        x
     }
-    standing::with_speed(x, new_speed(braking, spot, x, wish))
 }
 
 // ---- request
-pub fn requested_train(spot: Spot, train: Train) -> Train
-    ensures { result ≡ requested_at spot train }
+pub fn requested_train(spot: Spot, x: Train) -> Train
+    ensures { result ≡ requested_at spot x }
 {
-    if train.route == 0 {
-        return train;
+    if x.is_on() {
+        x.with_asking(spot.wants_next())
+    } else {
+        x
     }
-    standing::with_asking(train, standing::wants_next(spot))
 }
 
 // ---- position
-// How far a train is from its segment's start once it has run a cycle at its speed.
-fn run_to(position: u32, speed: u16) -> u64
-    ensures { result ≡ position + speed }
-{
-    position as u64 + speed as u64
-}
-
-fn moves_on(length: u32, x: Train) -> bool
-    ensures { result ≡ moves_in length x }
-{
-    (0 < x.route) & ((length as u64) <= run_to(x.position, x.speed))
-}
-
 // A train after the step, by the length of its own segment.
+#[tactic(auto, unfolding(trains::specs::Cycle::moved_in, trains::specs::Cycle::moves_in))]
 pub fn moved_train(length: u32, x: Train) -> Train
     requires { Room x }
     ensures { result ≡ moved_in length x }
 {
-    let to = run_to(x.position, x.speed);
-    if moves_on(length, x) {
-        return standing::moved_to(x, x.place + 1, (to - length as u64) as u32);
+    let to = x.position + u32::from(x.speed);
+    if x.is_on() && length <= to {
+        x.moved_to(x.place + 1, to - length)
+    } else {
+        x.moved_to(x.place, to)
     }
-    standing::moved_to(x, x.place, to as u32)
 }
 
 // The segment that a train's rear leaves, by the place of the rear before the step and the train after it; 0 where it leaves none.
-pub fn left_by<'a>(routebytes: &'a [u8; 960], lengths: &'a [u32; 62], rear: u8, x: Train) -> u8
-    ensures { result ≡ left_in routebytes.now lengths.now rear x }
+#[tactic(auto, unfolding(crate::specs::Left::left_in))]
+pub fn left_by(t: &Tables, rear: u8, x: Train) -> u8
+    ensures { result ≡ left_of t.now rear x }
 {
-    if x.route == 0 {
-        return 0;
+    if x.is_on() && standing::rear_of(t, x) != rear {
+        t.segment_at(x.route, rear)
+    } else {
+        0
     }
-    if standing::rear_of(routebytes, lengths, x) == rear {
-        return 0;
-    }
-    lookups::segment_at(routebytes, x.route, rear)
 }
 
 pub fn released_one(left: &[u8; 24], s: u8, h: u8) -> u8
     ensures { result ≡ (if eqb (at left.now h) s then 0 else h) }
 {
-    if entry_u8(left, h as usize) == s {
+    if entry(left, h as usize, 0) == s {
         0
     } else {
         h
