@@ -1,19 +1,42 @@
 -- Rule 10 as the code tests it: a route by the places after its count and by a walk along the places up to it; a record above R by
--- its 32 bytes.
-use Prim.Native.Nat.{ℕ, ◌+◌, ◌-◌, ◌*◌, ◌≤◌, ◌<◌}
-use mathlib.Core.Path.{◌≡◌}
+-- its 32 bytes at one stroke.
+use Prim.Native.Nat.{ℕ, zero, suc, ◌+◌, ◌-◌, ◌*◌, ◌≤◌, ◌<◌}
+use mathlib.Core.Path.{◌≡◌, refl, sym, ap, ◌∙◌}
 use mathlib.Core.Logic.{inr}
-use mathlib.Core.List.{List}
-use mathlib.Core.Bool.{Bool, true, false, not, ◌&&◌, and-false}
+use mathlib.Core.List.{List, [], ◌∷◌}
+use mathlib.Core.Bool.{Bool, true, false, ◌&&◌, and-false}
+use native.Mathlib.Numerals.{add-one}
 use native.Mathlib.Omega.{arith}
-use lib.Dec.{leb}
-use borrow.Author.Tests.{not-true, le-leb, lt-leb, eq-eqb, ne_eqb}
+use lib.Dec.{leb, eqb}
+use lib.ListN.{length, get_or, take, drop, replicate, length-take, length-drop}
+use Rattle.std.proofs.Common.{get_or-take, get_or-drop}
+use lib.Pointwise.{pointwise}
+use borrow.Author.Tests.{le-leb, lt-leb, eq-eqb, ne_eqb}
 use Rattle.lists.specs.Words.{every}
-use Rattle.lists.proofs.Cases.{either_yes, test_fails, test_holds, facts}
-use Rattle.lists.proofs.Loops.{every_none, every_first, every_more, every_fails, every_all}
+use Rattle.lists.proofs.Cases.{either_yes, facts}
+use Rattle.lists.proofs.Loops.{every_none, every_first, every_more, every_fails, every_all, every_same}
+use Rattle.lists.proofs.Numbered.{nth_in}
 use Rattle.tables.specs.Bounds.{longest_route}
 use Rattle.tables.specs.Tables.{links_to, count_of, segment_at}
 use Rattle.tables.specs.Rules.{number_in, step_in, zero_in, rest_in, used_route_ok, unused_route_ok}
+
+-- n bytes are the same as n zeros where each of them is zero
+zeros : (n : ℕ) (l : List ℕ) → length l ≡ n → pointwise eqb l (replicate n 0) ≡ every n (λ (k : ℕ). eqb (get_or l (k - 1) 0) 0)
+zeros zero [] e = sym (every_none _)
+zeros zero (x ∷ l) e = absurd (omega arith)
+zeros (suc n) [] e = absurd (omega arith)
+zeros (suc n) (x ∷ l) e =
+    let rest : every n (λ (k : ℕ). eqb (get_or l (k - 1) 0) 0) ≡ every n (λ (k : ℕ). eqb (get_or (x ∷ l) (k + 1 - 1) 0) 0)
+    = every_same n _ _ (λ k low high. beside k low) in
+    let first = every_first (λ (k : ℕ). eqb (get_or (x ∷ l) (k - 1) 0) 0) n in
+    rw (zeros n l (omega arith), rest) (sym (rw add-one at first))
+  where
+    beside : (k : ℕ) → 1 ≤ k → eqb (get_or l (k - 1) 0) 0 ≡ eqb (get_or (x ∷ l) (k + 1 - 1) 0) 0
+    beside zero low = absurd (omega arith)
+    beside (suc k) low =
+        let e : suc k + 1 - 1 ≡ suc k = omega arith in
+        let f : suc k - 1 ≡ k = omega arith in
+        rw (e, f) refl
 
 module _ (routebytes : List ℕ) (r : ℕ) where
   -- the count stands where the place 0 would
@@ -41,11 +64,28 @@ module _ (routebytes : List ℕ) (r : ℕ) where
   abbrev pub blank_in : ℕ → Bool
   blank_in k = zero_in routebytes r (k - 1)
 
-  pub blank_record : every (longest_route + 1) blank_in ≡ unused_route_ok routebytes r
+  blank_places : every (longest_route + 1) blank_in ≡ unused_route_ok routebytes r
   unfolding unused_route_ok
-  blank_record =
+  blank_places =
       let shift : (p : ℕ) → p + 1 - 1 ≡ p = λ p. omega arith in
       simp (every_first blank_in longest_route, count_at, shift)
+
+  pub blank_record :
+      1 ≤ r → 32 * r ≤ length routebytes
+      → pointwise eqb (take 32 (drop (32 * r - 32) routebytes)) (replicate 32 0) ≡ unused_route_ok routebytes r
+  unfolding segment_at
+  blank_record low high =
+      let part = take 32 (drop (32 * r - 32) routebytes) in
+      let long : length part ≡ 32 = simp (length-take, length-drop) (omega arith) in
+      zeros 32 part long
+      ∙ every_same 32 _ blank_in
+      (λ k from to.
+      let e : 32 * r - 31 + (k - 1) - 1 ≡ 32 * r - 32 + (k - 1) = omega arith in
+      ap (λ (n : ℕ). eqb n 0)
+      (get_or-take 32 (drop (32 * r - 32) routebytes) (k - 1) 0 (omega arith)
+      ∙ get_or-drop (32 * r - 32) routebytes (k - 1) 0
+      ∙ sym (rw e at (nth_in 0 routebytes (32 * r - 31 + (k - 1)) (omega arith)))))
+      ∙ blank_places
 
 module _ (next routebytes : List ℕ) (n r : ℕ) where
   pub bad_rest : every longest_route (rest_in routebytes r) ≡ false → false ≡ used_route_ok next routebytes n r
@@ -53,9 +93,9 @@ module _ (next routebytes : List ℕ) (n r : ℕ) where
   bad_rest h = rw (h, and-false)
 
   module _ {count : ℕ} (counted : count ≡ count_of routebytes r) where
-    pub bad_count : not (leb 1 count && leb count longest_route) ≡ true → false ≡ used_route_ok next routebytes n r
+    pub bad_count : (leb 1 count && leb count longest_route) ≡ false → false ≡ used_route_ok next routebytes n r
     unfolding used_route_ok
-    bad_count t = rw (← counted, not-true (leb 1 count && leb count longest_route) t)
+    bad_count t = rw (← counted, t)
 
     bad_number : (p : ℕ) → 1 ≤ p → p ≤ count → number_in routebytes n r p ≡ false → false ≡ used_route_ok next routebytes n r
     unfolding used_route_ok
@@ -79,7 +119,7 @@ module _ (next routebytes : List ℕ) (n r : ℕ) where
     number_first : (leb 1 before && leb before n) ≡ number_in routebytes n r 1
     number_first = rw read
 
-    pub walk_begin : not (leb 1 before && leb before n) ≡ false → Walked count before 1
+    pub walk_begin : (leb 1 before && leb before n) ≡ true → Walked count before 1
     walk_begin t =
         let f = simp facts at counted.bounds in
         record {
@@ -87,13 +127,13 @@ module _ (next routebytes : List ℕ) (n r : ℕ) where
           from = omega arith;
           most = omega arith;
           here = read;
-          numbers = every_more (number_in routebytes n r) 0 (every_none _) (test_holds number_first t);
+          numbers = every_more (number_in routebytes n r) 0 (every_none _) (sym number_first ∙ t);
           steps = every_none _;
         }
 
-    pub first_fails : not (leb 1 before && leb before n) ≡ true → false ≡ used_route_ok next routebytes n r
+    pub first_fails : (leb 1 before && leb before n) ≡ false → false ≡ used_route_ok next routebytes n r
     first_fails t =
-        let f = simp facts at counted.bounds in bad_number counted.read 1 (omega arith) (omega arith) (test_fails number_first t)
+        let f = simp facts at counted.bounds in bad_number counted.read 1 (omega arith) (omega arith) (sym number_first ∙ t)
 
   module _ {count before p : ℕ} (walked : Walked count before p) where
     pub walk_over : count ≤ p → true ≡ used_route_ok next routebytes n r
@@ -107,26 +147,24 @@ module _ (next routebytes : List ℕ) (n r : ℕ) where
       number_next : (leb 1 segment && leb segment n) ≡ number_in routebytes n r (p + 1)
       number_next = rw read
 
-      pub number_fails : not (leb 1 segment && leb segment n) ≡ true → false ≡ used_route_ok next routebytes n r
-      number_fails t = bad_number walked.counted.read (p + 1) (omega arith) (omega arith) (test_fails number_next t)
+      step_next : links_to next before segment ≡ step_in next routebytes r p
+      step_next = rw (walked.here, read)
 
-      -- `linked` is what the code found of the link to the segment at the next place
-      module _ {linked : Bool} (found : linked ≡ links_to next before segment) where
-        step_next : linked ≡ step_in next routebytes r p
-        step_next = rw (← walked.here, ← read) found
+      pub number_fails : (leb 1 segment && leb segment n) ≡ false → false ≡ used_route_ok next routebytes n r
+      number_fails t = bad_number walked.counted.read (p + 1) (omega arith) (omega arith) (sym number_next ∙ t)
 
-        pub step_fails : not linked ≡ true → false ≡ used_route_ok next routebytes n r
-        step_fails t = bad_step walked.counted.read p walked.from below (test_fails step_next t)
+      pub step_fails : links_to next before segment ≡ false → false ≡ used_route_ok next routebytes n r
+      step_fails t = bad_step walked.counted.read p walked.from below (sym step_next ∙ t)
 
-        pub walk_more : not (leb 1 segment && leb segment n) ≡ false → not linked ≡ false → Walked count segment (p + 1)
-        walk_more number step =
-            let up : p - 1 + 1 ≡ p = omega arith in
-            let down : p + 1 - 1 ≡ p = omega arith in
-            record {
-              counted = walked.counted;
-              from = omega arith;
-              most = omega arith;
-              here = read;
-              numbers = every_more (number_in routebytes n r) p walked.numbers (test_holds number_next number);
-              steps = rw down (rw up at (every_more (step_in next routebytes r) (p - 1) walked.steps (rw up (test_holds step_next step))));
-            }
+      pub walk_more : (leb 1 segment && leb segment n) ≡ true → links_to next before segment ≡ true → Walked count segment (p + 1)
+      walk_more number step =
+          let up : p - 1 + 1 ≡ p = omega arith in
+          let down : p + 1 - 1 ≡ p = omega arith in
+          record {
+            counted = walked.counted;
+            from = omega arith;
+            most = omega arith;
+            here = read;
+            numbers = every_more (number_in routebytes n r) p walked.numbers (sym number_next ∙ number);
+            steps = rw down (rw up at (every_more (step_in next routebytes r) (p - 1) walked.steps (rw up (sym step_next ∙ step))));
+          }

@@ -1,32 +1,37 @@
-// Rule 10 over the route records of an area. Arrays are lent, so that none is copied.
+// Rule 10 over the route records of an area.
 #![tactic(auto)]
 
-ghost use Rattle.std.specs.Prelude.{◌≡◌, ◌≤◌};
-ghost use Rattle.lists.specs.Words.{every, first_failing};
+ghost use Rattle.std.specs.Prelude.{◌≡◌, ◌≤◌, ◌&&◌, leb};
+ghost use Rattle.lists.specs.Words.{every, first_failing, found};
 ghost use Rattle.tables.specs.Bounds.{most_routes, longest_route};
-ghost use Rattle.tables.specs.Tables.{segment_at};
-ghost use Rattle.tables.specs.Rules.{rest_in, used_route_ok, unused_route_ok, route_in};
+ghost use Rattle.tables.specs.Tables.{count_of, segment_at};
+ghost use Rattle.tables.specs.Rules.{rest_in, used_route_ok, unused_route_ok, route_ok};
 
-use lookups::{count_of, links_to};
-use tables::{LONGEST_ROUTE, MOST_ROUTES};
+use lists::first_failing;
+use tables::{LONGEST_ROUTE, MOST_ROUTES, Tables, links_to};
 
 // The byte of a record at a place, read straight: the count at 0, and then the segments.
-fn route_byte(routebytes: &[u8; 960], r: u8, p: u8) -> u8
+fn route_byte(t: &Tables, r: u8, p: u8) -> u8
     requires { (1 ≤ r) × (r ≤ most_routes) × (p ≤ longest_route) }
-    ensures { result ≡ segment_at routebytes.now r p }
+    ensures { result ≡ segment_at t.now.routebytes r p }
 {
-    routebytes[32 * (r as usize) - 32 + (p as usize)]
+    t.routebytes[32 * (r as usize) - 32 + (p as usize)]
+}
+
+fn is_within(n: u8, most: u8) -> bool
+    ensures { result ≡ (leb 1 n && leb n most) }
+{
+    (1..=most).contains(&n)
 }
 
 // The places after the count are zero.
-fn rest_zero(routebytes: &[u8; 960], r: u8) -> bool
-    requires { (1 ≤ r) × (r ≤ most_routes) }
-    ensures { result ≡ every longest_route (rest_in routebytes.now r) }
+fn rest_zero(t: &Tables, r: u8, count: u8) -> bool
+    requires number { (1 ≤ r) × (r ≤ most_routes) }
+    requires counted { count ≡ count_of t.now.routebytes r }
+    ensures { result ≡ every longest_route (rest_in t.now.routebytes r) }
 {
-    let mut p = count_of(routebytes, r);
-    while p < LONGEST_ROUTE {
-        p += 1;
-        if route_byte(routebytes, r, p) != 0 {
+    for p in count..LONGEST_ROUTE {
+        if route_byte(t, r, p + 1) != 0 {
             return false;
         }
     }
@@ -34,29 +39,27 @@ fn rest_zero(routebytes: &[u8; 960], r: u8) -> bool
 }
 
 // A route is walked up to its count, each place with the segment before it in hand.
-fn used_route_ok<'a>(next: &'a [u8; 124], routebytes: &'a [u8; 960], n: u8, r: u8) -> bool
+fn used_route_ok(t: &Tables, r: u8) -> bool
     requires { (1 ≤ r) × (r ≤ most_routes) }
-    ensures { result ≡ used_route_ok next.now routebytes.now n r }
+    ensures { result ≡ used_route_ok t.now.next t.now.routebytes t.now.segments r }
 {
-    let count = count_of(routebytes, r);
-    if !((1 <= count) & (count <= LONGEST_ROUTE)) {
+    let count = t.count(r);
+    if !is_within(count, LONGEST_ROUTE) {
         return false;
     }
-    if !rest_zero(routebytes, r) {
+    if !rest_zero(t, r, count) {
         return false;
     }
-    let mut before = route_byte(routebytes, r, 1);
-    if !((1 <= before) & (before <= n)) {
+    let mut before = route_byte(t, r, 1);
+    if !is_within(before, t.segments) {
         return false;
     }
-    let mut p: u8 = 1;
-    while p < count {
-        p += 1;
-        let segment = route_byte(routebytes, r, p);
-        if !((1 <= segment) & (segment <= n)) {
+    for p in 1..count {
+        let segment = route_byte(t, r, p + 1);
+        if !is_within(segment, t.segments) {
             return false;
         }
-        if !links_to(next, before, segment) {
+        if !links_to(&t.next, before, segment) {
             return false;
         }
         before = segment;
@@ -64,40 +67,30 @@ fn used_route_ok<'a>(next: &'a [u8; 124], routebytes: &'a [u8; 960], n: u8, r: u
     true
 }
 
-// No early return: the 32 bytes of the record are compared at one stroke.
-fn unused_route_ok(routebytes: &[u8; 960], r: u8) -> bool
+// The 32 bytes of the record are compared at one stroke.
+fn unused_route_ok(t: &Tables, r: u8) -> bool
     requires { (1 ≤ r) × (r ≤ most_routes) }
-    ensures { result ≡ unused_route_ok routebytes.now r }
+    ensures { result ≡ unused_route_ok t.now.routebytes r }
 {
-    let mut blank = true;
-    let mut p: u8 = 0;
-    while p <= LONGEST_ROUTE {
-        blank = blank & (route_byte(routebytes, r, p) == 0);
-        p += 1;
-    }
-    blank
+    let first = 32 * (r as usize) - 32;
+    t.routebytes[first..first + 32] == [0; 32]
 }
 
-fn route_ok<'a>(next: &'a [u8; 124], routebytes: &'a [u8; 960], n: u8, routes: u8, r: u8) -> bool
+#[tactic(auto, unfolding(tables::specs::Rules::route_in))]
+fn route_ok(t: &Tables, r: u8) -> bool
     requires { (1 ≤ r) × (r ≤ most_routes) }
-    ensures { result ≡ route_in next.now routebytes.now n routes r }
+    ensures { result ≡ route_ok t.now r }
 {
-    if r <= routes {
-        return used_route_ok(next, routebytes, n, r);
+    if r <= t.routes {
+        used_route_ok(t, r)
+    } else {
+        unused_route_ok(t, r)
     }
-    unused_route_ok(routebytes, r)
 }
 
-// The least of all route records that breaks the rule, 0 where none does.
-pub fn first_bad_route<'a>(next: &'a [u8; 124], routebytes: &'a [u8; 960], n: u8, routes: u8) -> u8
-    ensures { result ≡ first_failing most_routes (route_in next.now routebytes.now n routes) }
+// The first of all route records that breaks the rule.
+pub fn first_bad_route(t: &Tables) -> Option<u8>
+    ensures { result ≡ found (first_failing most_routes (route_ok t.now)) }
 {
-    let mut r: u8 = 0;
-    while r < MOST_ROUTES {
-        r += 1;
-        if !route_ok(next, routebytes, n, routes, r) {
-            return r;
-        }
-    }
-    0
+    first_failing(MOST_ROUTES, |r| route_ok(t, r))
 }

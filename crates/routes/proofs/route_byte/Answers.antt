@@ -10,4 +10,4 @@ pub returns : goal.returns
 unfolding segment_at
 returns c =
     let e : 32 * c.args.r - 31 + c.args.p - 1 ≡ 32 * c.args.r - 32 + c.args.p = omega arith in
-    sym (rw e at (nth_in 0 c.args.routebytes.now (32 * c.args.r - 31 + c.args.p) (omega arith)))
+    sym (rw e at (nth_in 0 c.args.t.now.routebytes (32 * c.args.r - 31 + c.args.p) (omega arith)))

@@ -1,18 +1,10 @@
-use Prim.Native.Nat.{◌+◌, ◌-◌}
-use mathlib.Core.Path.{◌≡◌, sym, ◌∙◌}
+use Prim.Native.Nat.{◌+◌, ◌-◌, ◌*◌}
+use mathlib.Core.Path.{◌≡◌, ◌∙◌}
 use native.Mathlib.Omega.{arith}
-use Rattle.lists.proofs.Loops.{every_none, every_next}
-use Rattle.tables.specs.Bounds.{longest_route}
 use Rattle.routes.proofs.Routes.{blank_record}
 use Rattle.routes.proofs.unused_route_ok.Goals as goal
 
-pub loop-p-init : goal.loop-p-init
-loop-p-init c = (omega arith, sym (every_none _))
-
-pub loop-p-preserved : goal.loop-p-preserved
-loop-p-preserved c =
-    let e : c.loop-p.p + 1 - 1 ≡ c.loop-p.p = omega arith in
-    (omega arith, rw (every_next, e, c.route_byte.ensures, c.loop-p.invariant.1))
-
 pub returns : goal.returns
-returns c = let e : c.loop-p.p ≡ longest_route + 1 = omega arith in rw e at c.loop-p.invariant.1 ∙ blank_record _ _
+returns c =
+    let long : 32 * c.args.r - 32 + 32 - (32 * c.args.r - 32) ≡ 32 = omega arith in
+    rw long at c.eq.ensures ∙ blank_record c.args.t.now.routebytes c.args.r (omega arith) (omega arith)
