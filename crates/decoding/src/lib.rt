@@ -1,101 +1,65 @@
-// The tables that an area file holds. The file is lent and only read.
+// The tables that an area file holds. The file is lent and only read. Records and their links and bytes are counted from 1.
 #![tactic(auto)]
 
-ghost use Rattle.std.specs.Prelude.{◌≡◌, ◌<◌, ◌+◌, length};
+ghost use Rattle.std.specs.Prelude.{◌≡◌, ◌≤◌};
 ghost use Rattle.lists.specs.Words.{tabulate};
-ghost use Rattle.file.specs.Layout.{file_size, segment_start};
-ghost use Rattle.decoding.specs.Decoding.{segment_block, length_in, limit_in, link_in, flags_in, route_byte_in, decoded};
+ghost use Rattle.file.specs.Layout.{segment_start};
+ghost use Rattle.decoding.specs.Decoding.{segment_block, link_in, decoded};
 
+use blocks::block_of;
+use file::File;
+use lists::tabulate;
+use octets::{byte, four_at, two_at};
 use tables::Tables;
 
-// The block of segment record i + 1.
-pub fn segment_block(file: &[u8], i: usize) -> &[u8]
-    requires { (i < 62) × (length file.now ≡ file_size) }
-    ensures { result.now ≡ segment_block file.now (i + 1) }
+// The block of segment record s.
+#[tactic(auto, unfolding(crate::specs::Decoding::segment_block))]
+pub fn segment_block(file: &File, s: u16) -> &[u8]
+    requires { s ≤ 62 }
+    ensures { result.now ≡ segment_block file.now s }
 {
-    blocks::block_of(file, 1 + i / 31)
+    block_of(file, 1 + s.saturating_sub(1) as usize / 31)
 }
 
-// Where segment record i + 1 starts in its block.
-pub fn segment_start(i: usize) -> u16
-    ensures { result ≡ segment_start (i + 1) }
+// Where segment record s starts in its block.
+pub fn segment_start(s: u16) -> u16
+    ensures { result ≡ segment_start s }
 {
-    (16 * (i % 31)) as u16
+    16 * (s.saturating_sub(1) % 31)
 }
 
-fn lengths_of(file: &[u8]) -> [u32; 62]
-    requires { length file.now ≡ file_size }
-    ensures { result ≡ tabulate 62 (length_in file.now) }
-{
-    let mut lengths = [0u32; 62];
-    for i in 0..62 {
-        lengths[i] = octets::four_at(segment_block(file, i), segment_start(i));
-    }
-    lengths
-}
-
-fn limits_of(file: &[u8]) -> [u16; 62]
-    requires { length file.now ≡ file_size }
-    ensures { result ≡ tabulate 62 (limit_in file.now) }
-{
-    let mut limits = [0u16; 62];
-    for i in 0..62 {
-        limits[i] = octets::two_at(segment_block(file, i), segment_start(i) as u32 + 4);
-    }
-    limits
-}
-
-// The links that stand at a place of each record: 6 for next, 8 for previous.
-fn links_of(file: &[u8], place: u8) -> [u8; 124]
-    requires { length file.now ≡ file_size }
+// The links that stand at a place of each record, two a record: 6 for next, 8 for previous.
+#[tactic(auto, unfolding(crate::specs::Decoding::link_in))]
+fn links_of(file: &File, place: u8) -> [u8; 124]
     ensures { result ≡ tabulate 124 (link_in place file.now) }
 {
-    let mut links = [0u8; 124];
-    for i in 0..124 {
-        let at = segment_start(i / 2) as usize + place as usize + i % 2;
-        links[i] = octets::byte(segment_block(file, i / 2), at);
-    }
-    links
+    tabulate(|k| {
+        let s = (k + 1) / 2;
+        byte(
+            segment_block(file, s),
+            (segment_start(s) + place as u16 + (k - 1) % 2) as usize,
+        )
+    })
 }
 
-fn flags_of(file: &[u8]) -> [u8; 62]
-    requires { length file.now ≡ file_size }
-    ensures { result ≡ tabulate 62 (flags_in file.now) }
-{
-    let mut flags = [0u8; 62];
-    for i in 0..62 {
-        flags[i] = octets::byte(segment_block(file, i), segment_start(i) as usize + 10);
-    }
-    flags
-}
-
-fn routebytes_of(file: &[u8]) -> [u8; 960]
-    requires { length file.now ≡ file_size }
-    ensures { result ≡ tabulate 960 (route_byte_in file.now) }
-{
-    let mut routebytes = [0u8; 960];
-    for i in 0..960 {
-        routebytes[i] = octets::byte(blocks::block_of(file, 3 + i / 480), i % 480);
-    }
-    routebytes
-}
-
-pub fn decode(file: &[u8]) -> Tables
-    requires { length file.now ≡ file_size }
+pub fn decode(file: &File) -> Tables
     ensures { result ≡ decoded file.now }
 {
-    let header = blocks::block_of(file, 0);
+    let header = block_of(file, 0);
     Tables {
-        segments: octets::byte(header, 1),
-        routes: octets::byte(header, 2),
-        gmax: octets::two_at(header, 4),
-        braking: octets::two_at(header, 6),
-        margin: octets::four_at(header, 8),
-        lengths: lengths_of(file),
-        limits: limits_of(file),
+        segments: byte(header, 1),
+        routes: byte(header, 2),
+        gmax: two_at(header, 4),
+        braking: two_at(header, 6),
+        margin: four_at(header, 8),
+        lengths: tabulate(|s| four_at(segment_block(file, s), segment_start(s))),
+        limits: tabulate(|s| two_at(segment_block(file, s), segment_start(s) as u32 + 4)),
         next: links_of(file, 6),
         previous: links_of(file, 8),
-        flags: flags_of(file),
-        routebytes: routebytes_of(file),
+        flags: tabulate(|s| byte(segment_block(file, s), segment_start(s) as usize + 10)),
+        routebytes: tabulate(|k| {
+            let i = k as usize - 1;
+            byte(block_of(file, 3 + i / 480), i % 480)
+        }),
     }
 }
