@@ -1,5 +1,5 @@
 // What becomes of all trains and allocations at speed, request and position. All three read where each train stands; position is also
-// lent the arrays of the tables by which it finds the rear again.
+// lent the tables, by which it finds the rear again.
 #![tactic(auto)]
 
 ghost use Rattle.std.specs.Prelude.{◌≡◌, ℕ, eqb, if◌then◌else◌};
@@ -8,95 +8,56 @@ ghost use Rattle.trains.specs.Train.{train_at};
 ghost use Rattle.trains.specs.Cycle.{sped_at, requested_at, moved_in};
 ghost use Rattle.standing.specs.Spots.{spot_at};
 ghost use Rattle.steps.specs.Room.{Room};
-ghost use Rattle.steps.specs.Left.{left_in};
+ghost use Rattle.steps.specs.Left.{left_of};
 
-use lists::entry_u16;
+use lists::{each, entry};
 use steps::{left_by, moved_train, released_one, requested_train, sped_train};
+use tables::Tables;
 use trains::{Spot, Train};
 
-pub fn sped_all(braking: u16, wishes: &[u16], spots: [Spot; 24], trains: [Train; 24]) -> [Train; 24]
-    ensures { result ≡ each (λ t x. sped_at braking (spot_at spots t) (at wishes.now t) x) trains }
+// Where the train of a number stands.
+fn spot_at(spots: &[Spot; 24], n: u8) -> Spot
+    ensures { result ≡ spot_at spots.now n }
 {
-    let mut new = trains;
-    let mut i: usize = 0;
-    while i < 24 {
-        let x = trains[i];
-        let spot = spots[i];
-        new[i] = sped_train(braking, spot, entry_u16(wishes, i + 1), x);
-        i += 1;
-    }
-    new
+    entry(spots, n as usize, Spot::default())
 }
 
-pub fn requested_all(spots: [Spot; 24], trains: [Train; 24]) -> [Train; 24]
-    ensures { result ≡ each (λ t x. requested_at (spot_at spots t) x) trains }
+pub fn sped_all(
+    braking: u16,
+    wishes: &[u16],
+    spots: &[Spot; 24],
+    trains: &[Train; 24],
+) -> [Train; 24]
+    ensures { result ≡ each (λ n x. sped_at braking (spot_at spots.now n) (at wishes.now n) x) trains.now }
 {
-    let mut new = trains;
-    let mut i: usize = 0;
-    while i < 24 {
-        let x = trains[i];
-        let spot = spots[i];
-        new[i] = requested_train(spot, x);
-        i += 1;
-    }
-    new
+    each(
+        trains,
+        |n, x| sped_train(braking, spot_at(spots, n), entry(wishes, n as usize, 0), x),
+    )
 }
 
-pub fn moved_all(spots: [Spot; 24], trains: [Train; 24]) -> [Train; 24]
-    requires { (t : ℕ) → Room (train_at trains t) }
-    ensures { result ≡ each (λ t x. moved_in (spot_at spots t).length x) trains }
+pub fn requested_all(spots: &[Spot; 24], trains: &[Train; 24]) -> [Train; 24]
+    ensures { result ≡ each (λ n x. requested_at (spot_at spots.now n) x) trains.now }
 {
-    let mut new = trains;
-    let mut i: usize = 0;
-    while i < 24 {
-        let x = trains[i];
-        let spot = spots[i];
-        new[i] = moved_train(spot.length, x);
-        i += 1;
-    }
-    new
+    each(trains, |n, x| requested_train(spot_at(spots, n), x))
 }
 
-// The segment that each train's rear leaves. The trains are those after the step, the spots those before it.
-fn left_all<'a>(
-    routebytes: &'a [u8; 960],
-    lengths: &'a [u32; 62],
-    spots: [Spot; 24],
-    trains: [Train; 24],
-) -> [u8; 24]
-    ensures { result ≡ each (λ t x. left_in routebytes.now lengths.now (spot_at spots t).rear x) trains }
+pub fn moved_all(spots: &[Spot; 24], trains: &[Train; 24]) -> [Train; 24]
+    requires { (n : ℕ) → Room (train_at trains.now n) }
+    ensures { result ≡ each (λ n x. moved_in (spot_at spots.now n).length x) trains.now }
 {
-    let mut new = [0u8; 24];
-    let mut i: usize = 0;
-    while i < 24 {
-        let x = trains[i];
-        let spot = spots[i];
-        new[i] = left_by(routebytes, lengths, spot.rear, x);
-        i += 1;
-    }
-    new
+    each(trains, |n, x| moved_train(spot_at(spots, n).length, x))
 }
 
-fn released_by(left: [u8; 24], allocations: [u8; 62]) -> [u8; 62]
-    ensures { result ≡ each (λ s h. if eqb (at left h) s then 0 else h) allocations }
-{
-    let mut new = allocations;
-    let mut i: usize = 0;
-    while i < 62 {
-        new[i] = released_one(&left, (i + 1) as u8, allocations[i]);
-        i += 1;
-    }
-    new
-}
-
-pub fn released_all<'a>(
-    routebytes: &'a [u8; 960],
-    lengths: &'a [u32; 62],
-    spots: [Spot; 24],
-    trains: [Train; 24],
-    allocations: [u8; 62],
+// A segment is freed where it is the one that its holder's rear leaves. The trains are those after the step, the spots those before it.
+pub fn released_all(
+    t: &Tables,
+    spots: &[Spot; 24],
+    trains: &[Train; 24],
+    allocations: &[u8; 62],
 ) -> [u8; 62]
-    ensures { result ≡ each (λ s h. if eqb (at (each (λ t x. left_in routebytes.now lengths.now (spot_at spots t).rear x) trains) h) s then 0 else h) allocations }
+    ensures { result ≡ each (λ s h. if eqb (at (each (λ n x. left_of t.now (spot_at spots.now n).rear x) trains.now) h) s then 0 else h) allocations.now }
 {
-    released_by(left_all(routebytes, lengths, spots, trains), allocations)
+    let left = each(trains, |n, x| left_by(t, spot_at(spots, n).rear, x));
+    each(allocations, |s, h| released_one(&left, s, h))
 }

@@ -1,20 +1,22 @@
-use Prim.Native.Nat.{◌+◌}
-use Rattle.lists.proofs.Numbered.{nth_index, long_of}
-use Rattle.lists.proofs.Loops.{make_begin, make_more, make_over}
-use Rattle.trains.specs.Train.{off}
-use Rattle.standing.specs.Spots.{no_spot}
+-- The room that is required of every train by its number is the room of the entry that each turn moves.
+use Prim.Native.Nat.{ℕ, ◌+◌, ◌<◌}
+use mathlib.Core.Path.{◌≡◌}
+use mathlib.Core.List.{List}
+use lib.ListN.{length, get_or}
+use native.Mathlib.Omega.{arith}
+use borrow.Author.Rules.{rules}
+use Rattle.std.proofs.lemmas.List.{get_or_default}
+use Rattle.lists.proofs.Numbered.{nth_index}
+use Rattle.trains.specs.declared.Train.{Train}
+use Rattle.trains.specs.Train.{off, train_at}
+use Rattle.steps.specs.Room.{Room}
 use Rattle.cycle.proofs.moved_all.Goals as goal
 
-pub loop-i-init : goal.loop-i-init
-loop-i-init c = make_begin (search long_of) (search long_of)
+roomy :
+    (trains : List Train) → length trains ≡ 24 → ((n : ℕ) → Room (train_at trains n)) → (i : ℕ) (d : Train) → i < 24
+    → Room (get_or trains i d)
+roomy trains long room i d below =
+    rw (get_or_default trains i d off (omega arith)) (rw (nth_index off trains i) at (room (i + 1)))
 
-pub moved_train-requires : goal.moved_train-requires
-moved_train-requires c =
-    rw (nth_index off _ c.loop-i.i) at (c.requires (c.loop-i.i + 1))
-
-pub loop-i-preserved : goal.loop-i-preserved
-loop-i-preserved c =
-    make_more c.loop-i.invariant off c.loop-i-test.true (rw (nth_index no_spot) c.moved_train.ensures)
-
-pub returns : goal.returns
-returns c = make_over c.loop-i.invariant c.loop-i-test.false
+pub each-requires : goal.each-requires
+each-requires c = let r = roomy c.args.trains.now c.told-trains c.requires in search rules
