@@ -1,118 +1,77 @@
-// The tests of enter and leave in their order: the number of the first that holds, 0 where none does; `ok` says whether the record is
-// sound. What they read of the tables is lent, and the answer holds of all tables T that agree with it.
+// The tests of enter and leave, in the papers' order.
 #![tactic(auto)]
 
-ghost use Rattle.std.specs.Prelude.{◌≡◌, not, ◌∷◌};
-ghost use Rattle.lists.specs.Tests.{◌⇒◌, first_of};
-ghost use Rattle.tables.specs.declared.Tables.{Tables};
-ghost use Rattle.trains.specs.EnterLeave.{first_segment, journey_tests, entry_tests, exit_tests};
+ghost use Rattle.std.specs.Prelude.{◌≡◌, IfOk};
+ghost use Rattle.lists.specs.Tests.{first_of};
+ghost use Rattle.answers.specs.Refusals.{told};
+ghost use Rattle.trains.specs.EnterLeave.{first_segment, number_tests, entry_tests, exit_tests};
 
-use trains::Train;
+use answers::Refusal;
+use tables::Tables;
+use trains::{LONGEST_TRAIN, Train, train_at};
 
-// The refusal's number, and the segment that is entered where it is 0: handed on, so that the route is not read again.
-#[derive(Clone, Copy)]
+// What an enter that passes its tests names: the train, its route, and the segment that is entered, so that the route is not read again.
+#[derive(Clone, Copy, Debug, PartialEq, Eq)]
 pub struct Entry {
-    pub number: u8,
+    pub train: u8,
+    pub route: u8,
     pub first: u8,
 }
 
-// What enter asks of the journey, of the speed and of the route's first segment: the tests that come after the train's own.
-pub fn journey_refusal<'a>(
-    routes: u8,
-    routebytes: &'a [u8; 960],
-    flags: &'a [u8; 62],
-    limits: &'a [u16; 62],
-    allocations: &'a [u8; 62],
-    route: u16,
-    speed: u16,
-    length: u16,
-) -> Entry
-    ensures { (T : Tables) → T.routes ≡ routes → T.routebytes ≡ routebytes.now → T.flags ≡ flags.now → T.limits ≡ limits.now → (result.number ≡ (first_of (journey_tests T allocations.now (record { route = route; length = length }) speed)).number) × (result.number ≡ 0 → result.first ≡ first_segment T route) }
+// The number that a caller names, as that of a train.
+fn train_number(train: u16) -> Result<u8, Refusal>
+    ensures tests { told result ≡ first_of (number_tests train) }
+    ensures number { IfOk result (λ n. n ≡ train) }
 {
-    if (route == 0) | ((routes as u16) < route) {
-        return Entry {
-            number: 16,
-            first: 0,
-        };
+    match train {
+        1..=24 => Ok(train as u8),
+        _ => Err(Refusal::Train),
     }
-    if (length == 0) | (20000 < length) {
-        return Entry {
-            number: 23,
-            first: 0,
-        };
-    }
-    let first = lookups::segment_at(routebytes, route as u8, 1);
-    let number = enter_leave::first_segment_refusal(flags, allocations, limits, first, speed);
-    Entry { number, first }
 }
 
-pub fn enter_refusal<'a>(
-    ok: bool,
-    routes: u8,
-    routebytes: &'a [u8; 960],
-    flags: &'a [u8; 62],
-    limits: &'a [u16; 62],
-    allocations: &'a [u8; 62],
-    trains: [Train; 24],
+pub fn enter(
+    t: &Tables,
+    allocations: &[u8; 62],
+    trains: &[Train; 24],
     train: u16,
     route: u16,
     speed: u16,
     length: u16,
-) -> Entry
-    ensures { (T : Tables) → T.routes ≡ routes → T.routebytes ≡ routebytes.now → T.flags ≡ flags.now → T.limits ≡ limits.now → (result.number ≡ (first_of (not ok ⇒ 11 ∷ entry_tests T allocations.now trains train (record { route = route; length = length }) speed)).number) × (result.number ≡ 0 → result.first ≡ first_segment T route) }
+) -> Result<Entry, Refusal>
+    ensures tests { told result ≡ first_of (entry_tests t.now allocations.now trains.now train (record { route = route; length = length }) speed) }
+    ensures entry { IfOk result (λ e. (e.train ≡ train) × (e.route ≡ route) × (e.first ≡ first_segment t.now route)) }
 {
-    if !ok {
-        return Entry {
-            number: 11,
-            first: 0,
-        };
+    let train = train_number(train)?;
+    if train_at(trains, train).is_on() {
+        return Err(Refusal::AlreadyOn);
     }
-    if (train == 0) | (24 < train) {
-        return Entry {
-            number: 13,
-            first: 0,
-        };
+    if !(1..=u16::from(t.routes)).contains(&route) {
+        return Err(Refusal::RouteNumber);
     }
-    let x = standing::train_at(trains, train as u8);
-    if 0 < x.route {
-        return Entry {
-            number: 14,
-            first: 0,
-        };
+    if !(1..=LONGEST_TRAIN).contains(&length) {
+        return Err(Refusal::Length);
     }
-    journey_refusal(
-        routes,
-        routebytes,
-        flags,
-        limits,
-        allocations,
+    let route = route as u8;
+    let first = t.segment_at(route, 1);
+    enter_leave::check_first_segment(t, allocations, first, speed)?;
+    Ok(Entry {
+        train,
         route,
-        speed,
-        length,
-    )
+        first,
+    })
 }
 
-pub fn leave_refusal<'a>(
-    ok: bool,
-    routebytes: &'a [u8; 960],
-    flags: &'a [u8; 62],
-    trains: [Train; 24],
-    train: u16,
-) -> u8
-    ensures { (T : Tables) → T.routebytes ≡ routebytes.now → T.flags ≡ flags.now → result ≡ (first_of (not ok ⇒ 11 ∷ exit_tests T trains train)).number }
+pub fn leave(t: &Tables, trains: &[Train; 24], train: u16) -> Result<u8, Refusal>
+    ensures tests { told result ≡ first_of (exit_tests t.now trains.now train) }
+    ensures number { IfOk result (λ n. n ≡ train) }
 {
-    if !ok {
-        return 11;
+    let train = train_number(train)?;
+    let x = train_at(trains, train);
+    if !x.is_on() {
+        return Err(Refusal::NotOn);
     }
-    if (train == 0) | (24 < train) {
-        return 13;
+    if !enter_leave::at_exit(t, x) {
+        return Err(Refusal::NoExit);
     }
-    let x = standing::train_at(trains, train as u8);
-    if x.route == 0 {
-        return 15;
-    }
-    if !enter_leave::at_exit(routebytes, flags, x) {
-        return 20;
-    }
-    0
+    Ok(train)
 }

@@ -1,94 +1,49 @@
-// What enter and leave ask of a segment, and what becomes of the trains and of the allocations at these two.
+// What enter and leave ask of a segment, and what is freed at leave.
 #![tactic(auto)]
 
-ghost use Rattle.std.specs.Prelude.{◌≡◌, not, ◌&&◌, [], ◌∷◌, ◌/◌, ◌%◌, ltb, eqb, if◌then◌else◌};
+ghost use Rattle.std.specs.Prelude.{◌≡◌, not, ◌&&◌, [], ◌∷◌, ltb};
 ghost use Rattle.lists.specs.Words.{at, each};
 ghost use Rattle.lists.specs.Tests.{◌⇒◌, first_of};
-ghost use Rattle.tables.specs.Tables.{count_of};
-ghost use Rattle.trains.specs.Train.{own_in};
-ghost use Rattle.trains.specs.EnterLeave.{taken_by, freed_by, becomes};
+ghost use Rattle.answers.specs.Refusals.{told};
+ghost use Rattle.trains.specs.Train.{own_of};
+ghost use Rattle.trains.specs.EnterLeave.{is_entry, is_exit, is_last, freed_by};
 
-use lists::{entry_u8, entry_u16};
+use answers::Refusal;
+use lists::{each, entry};
+use tables::Tables;
 use trains::Train;
 
-// The number of the first test of a route's first segment that holds, 0 where none does.
-pub fn first_segment_refusal<'a>(
-    flags: &'a [u8; 62],
-    allocations: &'a [u8; 62],
-    limits: &'a [u16; 62],
+// The tests of a route's first segment.
+pub fn check_first_segment(
+    t: &Tables,
+    allocations: &[u8; 62],
     first: u8,
     speed: u16,
-) -> u8
-    ensures { result ≡ (first_of (not (eqb (at flags.now first % 2) 1) ⇒ 17 ∷ ltb 0 (at allocations.now first) ⇒ 18 ∷ ltb (at limits.now first) speed ⇒ 19 ∷ [])).number }
+) -> Result<(), Refusal>
+    ensures { told result ≡ first_of (not (is_entry t.now first) ⇒ 17 ∷ ltb 0 (at allocations.now first) ⇒ 18 ∷ ltb (at t.now.limits first) speed ⇒ 19 ∷ []) }
 {
-    if entry_u8(flags, first as usize) % 2 != 1 {
-        return 17;
+    if t.flags_of(first) % 2 != 1 {
+        return Err(Refusal::NoEntry);
     }
-    if 0 < entry_u8(allocations, first as usize) {
-        return 18;
+    if 0 < entry(allocations, first as usize, 0) {
+        return Err(Refusal::Taken);
     }
-    if entry_u16(limits, first as usize) < speed {
-        return 19;
+    if t.limit(first) < speed {
+        return Err(Refusal::TooFast);
     }
-    0
+    Ok(())
 }
 
 // On its route's last segment, which has the exit flag.
-pub fn at_exit<'a>(routebytes: &'a [u8; 960], flags: &'a [u8; 62], x: Train) -> bool
-    ensures { result ≡ (eqb x.place (count_of routebytes.now x.route) && eqb (at flags.now (own_in routebytes.now x) / 2) 1) }
+pub fn at_exit(t: &Tables, x: Train) -> bool
+    ensures { result ≡ (is_last t.now x && is_exit t.now (own_of t.now x)) }
 {
-    let own = standing::own_of(routebytes, x);
-    let last = lookups::count_of(routebytes, x.route);
-    (x.place == last) & (entry_u8(flags, own as usize) / 2 == 1)
+    x.place == t.count(x.route) && t.flags_of(standing::own_of(t, x)) / 2 == 1
 }
 
-// Segment s becomes allocated to train t.
-pub fn taken_all(allocations: [u8; 62], s: u8, t: u8) -> [u8; 62]
-    ensures { result ≡ each (taken_by s t) allocations }
+// All that is allocated to train n is freed.
+pub fn freed_all(allocations: &[u8; 62], n: u8) -> [u8; 62]
+    ensures { result ≡ each (freed_by n) allocations.now }
 {
-    let mut new = allocations;
-    if s == 0 {
-        return new;
-    }
-    let i = s as usize - 1;
-    if 62 <= i {
-        return new;
-    }
-    new[i] = t;
-    new
-}
-
-fn freed_one(t: u8, h: u8) -> u8
-    ensures { result ≡ (if eqb h t then 0 else h) }
-{
-    if h == t { 0 } else { h }
-}
-
-// All that is allocated to train t is freed.
-pub fn freed_all(allocations: [u8; 62], t: u8) -> [u8; 62]
-    ensures { result ≡ each (freed_by t) allocations }
-{
-    let mut new = allocations;
-    let mut i: usize = 0;
-    while i < 62 {
-        new[i] = freed_one(t, allocations[i]);
-        i += 1;
-    }
-    new
-}
-
-// The train of number t becomes x.
-pub fn with_train(trains: [Train; 24], t: u8, x: Train) -> [Train; 24]
-    ensures { result ≡ each (becomes t x) trains }
-{
-    let mut new = trains;
-    if t == 0 {
-        return new;
-    }
-    let i = t as usize - 1;
-    if 24 <= i {
-        return new;
-    }
-    new[i] = x;
-    new
+    each(allocations, |_, h| if h == n { 0 } else { h })
 }
