@@ -35,10 +35,8 @@ fn links_of(file: &File, place: u8) -> [u8; 124]
 {
     tabulate(|k| {
         let s = (k + 1) / 2;
-        byte(
-            segment_block(file, s),
-            (segment_start(s) + place as u16 + (k - 1) % 2) as usize,
-        )
+        let at = segment_start(s) + place as u16 + (k - 1) % 2;
+        byte(segment_block(file, s), at as usize)
     })
 }
 

@@ -9,6 +9,6 @@ use Rattle.encoding.proofs.route_rows.Goals as goal
 pub returns : goal.returns
 returns c =
     let e : 32 * c.args.before + 480 - 32 * c.args.before ≡ 480 = omega arith in (
-      ap (λ (n : ℕ). take n (drop (32 * c.args.before) c.args.routebytes.now)) e ∙ routes_part c.args.routebytes.now c.args.before (omega arith),
+      ap (λ (n : ℕ). take n (drop (32 * c.args.before) c.args.t.now.routebytes)) e ∙ routes_part c.args.t.now.routebytes c.args.before (omega arith),
       simp (length-take, length-drop) (omega arith),
     )

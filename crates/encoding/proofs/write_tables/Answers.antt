@@ -11,10 +11,10 @@ returns c =
       c.put_block-4.ensures,
       c.route_rows.ensures.0,
       c.put_block-3.ensures,
-      c.segment_rows-second.ensures,
+      c.segment_rows-2.ensures,
       c.put_block-2.ensures,
-      c.segment_rows-first.ensures,
+      c.segment_rows.ensures,
       c.put_block.ensures,
-      c.header_bytes-header.ensures,
+      c.header_bytes.ensures,
     )
     (encoded_put _ _)
