@@ -1,60 +1,63 @@
--- A call's outcome by the number of the first of its tests that holds: a refusal where it is not 0, and the finished step where it is.
-use Prim.Native.Nat.{ℕ}
-use mathlib.Core.Path.{◌≡◌, sym, ap, ◌∙◌}
-use mathlib.Core.Bool.{Bool, true, false}
-use mathlib.Core.List.{List}
-use borrow.Author.Tests.{not-true, eq-eqb}
-use Rattle.lists.specs.Tests.{Test, first_of, condition_of}
-use Rattle.lists.proofs.Cases.{by_test}
-use Rattle.lists.proofs.Refusals.{passed, absent, first_none, first_number, placeless, first_placeless}
+-- A call's outcome by the first of its tests that holds: its refusal, or the finished step where none does. Test 11 is the first of each
+-- call, and the examination makes it.
+use mathlib.Core.Path.{◌≡◌, refl, sym, ap}
+use mathlib.Core.Bool.{Bool, true, false, not}
+use mathlib.Core.List.{List, ◌∷◌}
+use Rattle.std.specs.Prelude.{Result, Ok, Err, if◌then◌else◌}
+use Rattle.std.specs.Result.{is_ok}
+use Rattle.lists.specs.Tests.{Test, ◌⇒◌, first_of}
+use Rattle.lists.proofs.Cases.{not_both}
 use Rattle.trains.specs.declared.Spot.{Spot}
 use Rattle.standing.specs.Spots.{spots_of}
-use Rattle.answers.specs.Answers.{answer_of}
-use Rattle.answers.proofs.Answers.{number_of_answer}
+use Rattle.answers.specs.declared.Refusal.{Refusal}
+use Rattle.answers.specs.declared.Refusal.TheVariants.{Unsound}
+use Rattle.answers.specs.Refusals.{refusal_number}
+use Rattle.answers.proofs.Answers.{answer_done}
+use Rattle.answers.proofs.Refusals.{refused_answer}
 use Rattle.area.specs.declared.Area.{Area}
-use Rattle.area.specs.declared.Outcome.{Outcome}
 use Rattle.area.specs.declared.Change.{Change}
-use Rattle.area.specs.declared.Examined.{Examined}
 use Rattle.area.specs.Sound.{sound}
-use Rattle.area.specs.Calls.{outcome, change_of}
-use Rattle.area.specs.Examined.{examined_of}
+use Rattle.area.specs.Calls.{outcome, changed_by, outcome_of}
+use Rattle.area.specs.Examined.{examined}
 
-module _ (tests : List Test) {number : ℕ} (first : number ≡ (first_of tests).number) where
-  -- no test holds where the number is 0
-  none_holds : absent 0 tests ≡ true → number ≡ 0 → (first_of tests).holds ≡ false
-  none_holds out zero = not-true _ (sym (first_number tests out) ∙ eq-eqb _ 0 (sym first ∙ zero))
+-- what an examination found of a record, by the test of a sound one
+found_by : (A : List Spot) (ok : Bool) (o : Result (List Spot) Refusal) → o ≡ (if ok then Ok A else Err Unsound) → is_ok o ≡ ok
+found_by A true o e = rw e refl
+found_by A false o e = rw e refl
 
-  -- so the test of a given number does not
-  pub passed_by : absent 0 tests ≡ true → number ≡ 0 → (n : ℕ) → condition_of n tests ≡ false
-  passed_by out zero n = passed n tests (none_holds out zero)
+pub found_spots : (a : Area) {spots : List Spot} → Ok spots ≡ examined a → sound a ≡ true
+found_spots a e = sym (found_by _ (sound a) _ e)
 
-  module _ (new old : Area) where
-    pub refused_by : placeless tests ≡ true → (number ≡ 0 → ⊥) → record { answer = answer_of number 0; area = old } ≡ outcome tests new old
-    refused_by plain some =
-        by_test (first_of tests).holds
-        (λ h. rw (first, h, first_placeless tests plain))
-        (λ h. absurd (some (first ∙ ap (λ (t : Test). t.number) (first_none tests h))))
+found_list : (A spots : List Spot) (ok : Bool) → ◌≡◌ {A = Result (List Spot) Refusal} (Ok spots) (if ok then Ok A else Err Unsound) → spots ≡ A
+found_list A spots true e = cc
+found_list A spots false e = let z : true ≡ false = ap is_ok e in not_both true refl z
 
-    pub finished_by :
-        {made : Area} → absent 0 tests ≡ true → number ≡ 0 → made ≡ new → record { answer = answer_of 0 0; area = made } ≡ outcome tests new old
-    finished_by out zero same = rw (first_none tests (none_holds out zero), same)
+pub found_places : (a : Area) {spots : List Spot} → Ok spots ≡ examined a → spots ≡ spots_of a.tables a.allocations a.trains
+found_places a e = found_list _ _ (sound a) e
 
--- ---- what a call changes, and its outcome, which has the tables beside it
-pub change_by :
-    (number : ℕ) (a : Area) {o : Outcome} → record { answer = answer_of number 0; area = a } ≡ o
-    → ◌≡◌ {A = Change} (record { number = number; allocations = a.allocations; trains = a.trains; due = a.due }) (change_of o)
-change_by number a e = rw (sym (number_of_answer number 0)) (ap change_of e)
+-- a refusal by the examination
+refused_unsound : (A : List Spot) (r : Refusal) (ok : Bool) → ◌≡◌ {A = Result (List Spot) Refusal} (Err r) (if ok then Ok A else Err Unsound) → (ok ≡ false) × (r ≡ Unsound)
+refused_unsound A r true e = let z : false ≡ true = ap is_ok e in not_both false z refl
+refused_unsound A r false e = (refl, cc)
 
-pub outcome_by_lem :
-    (tests : List Test) (new old : Area) → placeless tests ≡ true → new.tables ≡ old.tables → {x : Change} → x ≡ change_of (outcome tests new old)
-    → record { answer = answer_of x.number 0; area = record { tables = old.tables; allocations = x.allocations; trains = x.trains; due = x.due } }
-    ≡ outcome tests new old
-outcome_by_lem tests new old plain same e =
-    rw (e, first_placeless tests plain, number_of_answer (first_of tests).number 0)
-    (by_test (first_of tests).holds (λ h. rw h) (λ h. rw (h, ← same)))
+pub found_unsound : (a : Area) {r : Refusal} → Err r ≡ examined a → (sound a ≡ false) × (r ≡ Unsound)
+found_unsound a {r} e = refused_unsound _ r (sound a) e
 
--- what an examination finds, by its two parts
-pub found_by :
-    (a : Area) {ok : Bool} {spots : List Spot} → ok ≡ sound a → spots ≡ spots_of a.tables a.allocations a.trains
-    → ◌≡◌ {A = Examined} (record { ok = ok; spots = spots }) (examined_of a)
-found_by a e f = rw (e, f)
+module _ (rest : List Test) (new old : Area) where
+  abbrev calls : List Test
+  calls = not (sound old) ⇒ 11 ∷ rest
+
+  pub unsound_by : {r : Refusal} → Err r ≡ examined old → outcome_of old (Err r) ≡ outcome calls new old
+  unsound_by {r} e =
+      let f = found_unsound old e in
+      rw (f.0, f.1) (rw (refused_answer Unsound 0) refl)
+
+  pub refused_by :
+      (r : Refusal) → sound old ≡ true → ◌≡◌ {A = Test} (record { holds = true; number = refusal_number r; place = 0 }) (first_of rest)
+      → outcome_of old (Err r) ≡ outcome calls new old
+  refused_by r s first = rw (s, ← first, refused_answer r 0) refl
+
+  pub finished_by :
+      {c : Change} → sound old ≡ true → ◌≡◌ {A = Test} (record { holds = false; number = 0; place = 0 }) (first_of rest) → changed_by old c ≡ new
+      → outcome_of old (Ok c) ≡ outcome calls new old
+  finished_by s first same = rw (s, ← first, answer_done 0 0 refl, same) refl

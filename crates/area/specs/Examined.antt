@@ -1,18 +1,11 @@
--- What the test of a sound record hands on, and the parts of a record that a call works on once it has been examined.
-use Rattle.std.specs.Prelude.{ℕ, ◌≡◌, List}
-use Rattle.trains.specs.declared.Train.{Train}
+-- What the test of a sound record hands on: where its trains stand, which speed, request and position read again.
+use Rattle.std.specs.Prelude.{List, Result, Ok, Err, if◌then◌else◌}
+use Rattle.trains.specs.declared.Spot.{Spot}
 use Rattle.standing.specs.Spots.{spots_of}
+use Rattle.answers.specs.declared.Refusal.{Refusal}
+use Rattle.answers.specs.declared.Refusal.TheVariants.{Unsound}
 use Rattle.area.specs.declared.Area.{Area}
-use Rattle.area.specs.declared.Examined.{Examined}
 use Rattle.area.specs.Sound.{sound}
 
--- whether the record is sound, and where its trains stand
-abbrev pub examined_of : Area → Examined
-examined_of a = record { ok = sound a; spots = spots_of a.tables a.allocations a.trains }
-
--- f is found of the record a, and A, X and d are its allocations, its trains and its step due
-pub record Parts (a : Area) (f : Examined) (A : List ℕ) (X : List Train) (d : ℕ) : Type 0 where
-  pub found : f ≡ examined_of a
-  pub allocations : A ≡ a.allocations
-  pub trains : X ≡ a.trains
-  pub due : d ≡ a.due
+abbrev pub examined : Area → Result (List Spot) Refusal
+examined a = if sound a then Ok (spots_of a.tables a.allocations a.trains) else Err Unsound

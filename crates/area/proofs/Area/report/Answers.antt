@@ -1,14 +1,18 @@
-use Rattle.lists.proofs.Cases.{test_fails, test_holds}
+use Rattle.std.proofs.Common.{refl, sym, ◌∙◌}
+use Rattle.answers.specs.declared.Refusal.TheVariants.{Unsound}
+use Rattle.answers.proofs.Answers.{answer_done}
+use Rattle.answers.proofs.Refusals.{refused_answer}
 use Rattle.area.specs.Calls.{reported}
-use Rattle.std.proofs.Common.{ap}
-use Rattle.std.specs.Prelude.{not}
+use Rattle.area.proofs.Laws.{found_spots, found_unsound}
 use Rattle.area.proofs.Area.report.Goals as goal
 
-pub returns-then-not-sound : goal.returns-then-not-sound
+pub returns-in-Err : goal.returns-in-Err
 unfolding reported
-returns-then-not-sound c = rw (test_fails c.sound.ensures (ap not c.if-not-sound.true), c.answer_of.ensures)
+returns-in-Err c =
+    let f = found_unsound c.args.self.now (sym c.in-Err.is ∙ c.examine.ensures) in
+    rw (c.at.ensures, f.0, f.1, refused_answer Unsound 0) refl
 
 pub returns : goal.returns
 unfolding reported
 returns c =
-    rw (test_holds c.sound.ensures (ap not c.if-not-sound.false), c.answer_of-2.ensures, c.summary_of-summary.ensures)
+    rw (found_spots c.args.self.now (sym c.in_default.is ∙ c.examine.ensures), c.summary_of-summary.ensures, answer_done 0 0 refl) refl
