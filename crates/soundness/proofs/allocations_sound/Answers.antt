@@ -1,14 +1,15 @@
 use Rattle.std.specs.Prelude.{if◌then◌else◌}
-use Prim.Native.Nat.{ℕ, ◌+◌, ◌≤◌}
+use Prim.Native.Nat.{ℕ, zero, suc, ◌+◌, ◌≤◌}
 use mathlib.Core.Path.{◌≡◌, sym, ap, ◌∙◌}
-use mathlib.Core.Bool.{◌||◌}
-use mathlib.Core.List.{List}
+use mathlib.Core.Bool.{Bool, ◌&&◌, ◌||◌}
+use mathlib.Core.List.{List, [], ◌∷◌}
 use native.Mathlib.Omega.{arith}
+use native.Mathlib.Numerals.{add-one}
 use lib.Dec.{eqb}
-use lib.ListN.{length}
-use borrow.Author.Rules.{rules}
-use Rattle.lists.specs.Words.{at}
-use Rattle.lists.proofs.Loops.{every_same}
+use lib.ListN.{length, replicate}
+use lib.Pointwise.{pointwise}
+use Rattle.lists.specs.Words.{nth, at, every}
+use Rattle.lists.proofs.Loops.{every_none, every_first, every_same}
 use Rattle.lists.proofs.Numbered.{nth_index, nth_each_in, length_each}
 use Rattle.lists.proofs.Some.{none_some, some_next}
 use Rattle.tables.specs.Bounds.{most_segments}
@@ -33,6 +34,23 @@ more routebytes spots trains i p x l left new stands is so next =
     λ s. rw (some_next (λ (t : ℕ). covers routebytes (spot_at spots t) (train_at trains t) s) i, stands, is) in
     next ∙ (ap (without (covers routebytes p x)) so ∙ (without_both l before (covers routebytes p x) ∙ without_same l _ _ one_more))
 
+-- a list that is all zero
+shifted : (x : ℕ) (l : List ℕ) (k : ℕ) → 1 ≤ k → at l k ≡ at (x ∷ l) (k + 1)
+unfolding nth
+shifted x l zero low = absurd (omega arith)
+shifted x l (suc k) low = rw add-one
+
+all_zero : (n : ℕ) (l : List ℕ) → length l ≡ n → pointwise eqb l (replicate n 0) ≡ every n (λ (s : ℕ). eqb (at l s) 0)
+unfolding nth
+all_zero zero [] h = sym (every_none _)
+all_zero zero (x ∷ l) h = absurd (omega arith)
+all_zero (suc n) [] h = absurd (omega arith)
+all_zero (suc n) (x ∷ l) h =
+    let p : ℕ → Bool = λ s. eqb (at (x ∷ l) s) 0 in
+    let first : every (suc n) p ≡ (p 1 && every n (λ (k : ℕ). p (k + 1))) = rw add-one at (every_first p n) in
+    ap (λ (b : Bool). eqb x 0 && b) (all_zero n l (omega arith) ∙ every_same n _ _ (λ k low high. ap (λ (h : ℕ). eqb h 0) (shifted x l k low)))
+    ∙ sym first
+
 -- the allocations without what all trains may hold
 over :
     (routebytes A left : List ℕ) (spots : List Spot) (trains : List Train) (s : ℕ) → length A ≡ 62 → 1 ≤ s → s ≤ most_segments
@@ -42,20 +60,16 @@ over routebytes A left spots trains s long low high e =
     ap (λ (h : ℕ). eqb h 0) (ap (λ (l : List ℕ). at l s) e ∙ nth_each_in 0 0 _ A s low (omega arith))
 
 pub loop-i-init : goal.loop-i-init
-loop-i-init c = (omega arith, sym (without_none _ _ (λ s. none_some _ 0 (λ k low high. absurd (omega arith)))))
-
-pub slice_bounds-take_train-end : goal.slice_bounds-take_train-end
-slice_bounds-take_train-end c =
-    let long : length c.args.allocations ≡ 62 = search rules in
-    let e : length c.loop-i.left ≡ 62 = ap length c.loop-i.invariant.1 ∙ (length_each _ _ ∙ long) in
-    search rules
+loop-i-init c = sym (without_none _ _ (λ s. none_some _ 0 (λ k low high. absurd (omega arith))))
 
 pub loop-i-preserved : goal.loop-i-preserved
 loop-i-preserved c =
-    (omega arith, more _ c.args.spots c.args.trains c.loop-i.i _ _ _ _ _ (nth_index no_spot _ _) (nth_index off _ _) c.loop-i.invariant.1 c.take_train.ensures)
+    more _ c.args.spots.now c.args.trains.now c.loop-i.i _ _ _ _ _ (nth_index no_spot _ _) (nth_index off _ _) c.loop-i.invariant c.take_train.ensures
 
 pub returns : goal.returns
 returns c =
-    let long : length c.args.allocations ≡ 62 = search rules in
     let e : c.loop-i.i ≡ most_trains = omega arith in
-    c.none_left.ensures ∙ every_same most_segments _ _ (λ s low high. over _ _ _ _ _ s long low high (rw e at c.loop-i.invariant.1))
+    let long : length c.loop-i.left ≡ 62 = ap length c.loop-i.invariant ∙ (length_each _ _ ∙ c.told-allocations) in
+    c.eq.ensures
+    ∙ (all_zero 62 c.loop-i.left long
+    ∙ every_same most_segments _ _ (λ s low high. over _ _ _ _ _ s c.told-allocations low high (rw e at c.loop-i.invariant)))

@@ -1,12 +1,12 @@
 -- After each turn what the trains so far may hold is taken away.
-use Prim.Native.Nat.{ℕ, ◌-◌, ◌≤◌}
+use Prim.Native.Nat.{ℕ}
 use mathlib.Core.Path.{◌≡◌}
 use mathlib.Core.Bool.{Bool}
 use mathlib.Core.List.{List}
 use Rattle.lists.specs.Words.{some}
 use Rattle.trains.specs.declared.Train.{Train}
 use Rattle.trains.specs.declared.Spot.{Spot}
-use Rattle.trains.specs.Train.{most_trains, train_at}
+use Rattle.trains.specs.Train.{train_at}
 use Rattle.standing.specs.Spots.{spot_at}
 use Rattle.soundness.specs.Covered.{covers}
 use Rattle.soundness.proofs.Taken.{without}
@@ -17,7 +17,4 @@ abbrev pub covered : (routebytes : List ℕ) → List Spot → List Train → (n
 covered routebytes spots trains n s = some n (λ (t : ℕ). covers routebytes (spot_at spots t) (train_at trains t) s)
 
 abbrev pub invariant-loop-i : goal.invariant-loop-i
-invariant-loop-i l = (l.i ≤ most_trains) × (l.left ≡ without (covered l.routebytes l.spots l.trains l.i) l.initial.left)
-
-abbrev pub decreases-loop-i : goal.decreases-loop-i
-decreases-loop-i l = most_trains - l.i
+invariant-loop-i l = l.left ≡ without (covered l.t.routebytes l.spots l.trains l.i) l.initial.left

@@ -1,7 +1,6 @@
--- After each turn the segments from the rear's place up to the place come to are taken away.
-use Prim.Native.Nat.{ℕ, ◌+◌, ◌-◌, ◌≤◌, ◌<◌}
+-- Before each turn the segments from the rear's place up to the place before are taken away.
+use Prim.Native.Nat.{ℕ, ◌-◌, min}
 use mathlib.Core.Path.{◌≡◌}
-use mathlib.Core.Logic.{◌⊎◌}
 use mathlib.Core.Bool.{Bool, ◌&&◌}
 use mathlib.Core.List.{List}
 use lib.Dec.{leb, eqb}
@@ -15,7 +14,4 @@ abbrev pub stands : (routebytes : List ℕ) (r rear s : ℕ) → ℕ → Bool
 stands routebytes r rear s p = leb rear p && eqb (segment_at routebytes r p) s
 
 abbrev pub invariant-loop-p : goal.invariant-loop-p
-invariant-loop-p l = (l.rear ≤ l.p + 1) × ((l.p ≤ l.place) ⊎ (l.p < l.rear)) × (l.left ≡ without (λ (s : ℕ). some l.p (stands l.routebytes l.r l.rear s)) l.initial.left)
-
-abbrev pub decreases-loop-p : goal.decreases-loop-p
-decreases-loop-p l = l.place - l.p
+invariant-loop-p l = l.left ≡ without (λ (s : ℕ). some (min (l.p - 1) l.place) (stands l.t.routebytes l.r l.rear s)) l.initial.left
