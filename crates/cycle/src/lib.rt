@@ -11,16 +11,10 @@ ghost use Rattle.steps.specs.Room.{Room};
 ghost use Rattle.steps.specs.Left.{left_of};
 
 use lists::{each, entry};
+use standing::spot_at;
 use steps::{left_by, moved_train, released_one, requested_train, sped_train};
 use tables::Tables;
 use trains::{Spot, Train};
-
-// Where the train of a number stands.
-fn spot_at(spots: &[Spot; 24], n: u8) -> Spot
-    ensures { result ≡ spot_at spots.now n }
-{
-    entry(spots, n as usize, Spot::default())
-}
 
 pub fn sped_all(
     braking: u16,

@@ -6,32 +6,25 @@ ghost use Rattle.lists.specs.Words.{at, each, every, some};
 ghost use Rattle.tables.specs.Bounds.{most_segments};
 ghost use Rattle.tables.specs.Tables.{segment_at, distance_in, braking_distance};
 ghost use Rattle.trains.specs.Train.{most_trains, train_at};
-ghost use Rattle.trains.specs.Sound.{off_sound, place_sound, to_run, braking_sound, asking_sound, stands_sound};
+ghost use Rattle.trains.specs.Sound.{place_sound, to_run, braking_sound, asking_sound, stands_sound};
 ghost use Rattle.standing.specs.Spots.{spot_at};
 ghost use Rattle.soundness.specs.Stopping.{Stopping};
 ghost use Rattle.soundness.specs.Covered.{covers, left_over};
 
-use lists::{entry, every};
+use lists::every;
+use standing::spot_at;
 use tables::{MOST_SEGMENTS, Tables};
 use trains::{LONGEST_TRAIN, Spot, Step, Train, train_at};
-
-// A train off, whose route is known to be 0.
-fn off_sound(x: Train) -> bool
-    ensures { result ≡ off_sound x }
-{
-    Train { route: 0, ..x } == Train::default()
-}
 
 #[tactic(auto, unfolding(trains::specs::Sound::place_sound))]
 fn place_sound(routes: u8, spot: Spot, x: Train) -> bool
     ensures { result ≡ place_sound routes spot x }
 {
     x.route <= routes
-        && 1 <= x.place
-        && x.place <= spot.count
+        && (1..=spot.count).contains(&x.place)
         && x.position < spot.length
         && x.speed <= spot.limit
-        && (1 <= x.length && x.length <= LONGEST_TRAIN)
+        && (1..=LONGEST_TRAIN).contains(&x.length)
         && spot.holdsall
 }
 
@@ -58,14 +51,13 @@ fn braking_sound(t: &Tables, due: u8, spot: Spot, x: Train) -> bool
     let position = u64::from(x.position);
     let length = u64::from(spot.length);
     if spot.holds {
-        return due == Step::Speed.number()
+        due == Step::Speed.number()
             || position + u64::from(x.speed) < length
-            || x.speed <= spot.nextlimit;
+            || x.speed <= spot.nextlimit
+    } else {
+        position + u64::from(t.margin) < length
+            || position + u64::from(to_run(t.braking, due, x.speed)) < length
     }
-    if position + u64::from(t.margin) < length {
-        return true;
-    }
-    position + u64::from(to_run(t.braking, due, x.speed)) < length
 }
 
 #[tactic(auto, unfolding(trains::specs::Sound::asking_sound))]
@@ -82,7 +74,7 @@ fn train_sound(t: &Tables, due: u8, spot: Spot, x: Train) -> bool
     ensures { result ≡ stands_sound t.now.routes (braking_distance t.now) due spot x }
 {
     if !x.is_on() {
-        return off_sound(x);
+        return x == Train::default();
     }
     place_sound(t.routes, spot, x) && braking_sound(t, due, spot, x) && asking_sound(due, spot, x)
 }
@@ -94,12 +86,7 @@ pub fn trains_sound(t: &Tables, due: u8, spots: &[Spot; 24], trains: &[Train; 24
 {
     every(
         24,
-        |n| train_sound(
-            t,
-            due,
-            entry(spots, n as usize, Spot::default()),
-            train_at(trains, n),
-        ),
+        |n| train_sound(t, due, spot_at(spots, n), train_at(trains, n)),
     )
 }
 

@@ -5,7 +5,7 @@ ghost use Rattle.std.specs.Prelude.{◌≡◌, eqb};
 ghost use Rattle.lists.specs.Words.{at};
 ghost use Rattle.trains.specs.Train.{own_of, next_of, wanted, rear_of};
 ghost use Rattle.trains.specs.Spot.{spot_of};
-ghost use Rattle.standing.specs.Spots.{spots_of};
+ghost use Rattle.standing.specs.Spots.{spots_of, spot_at};
 
 use lists::{each, entry, every};
 use tables::Tables;
@@ -95,4 +95,11 @@ pub fn spots_of(t: &Tables, allocations: &[u8; 62], trains: &[Train; 24]) -> [Sp
             Spot::default()
         },
     )
+}
+
+// The spot of a train's number; nowhere where there is none.
+pub fn spot_at(spots: &[Spot; 24], n: u8) -> Spot
+    ensures { result ≡ spot_at spots.now n }
+{
+    entry(spots, n as usize, Spot::default())
 }

@@ -13,4 +13,8 @@ returns-then-position-from-2 c =
     let S = braking_distance c.args.t.now in
     let way = to_run S c.args.due c.args.x.speed in
     let w : way ≤ S c.args.x.speed = run_within S c.args.due c.args.x.speed in
-    simp (c.if-spot.false, lt-ltb (c.args.x.position + way) c.args.spot.length (omega (arith, w, c.requires.1)))
+    simp (
+      c.if-spot.false,
+      lt-ltb (c.from-position.result + c.from-else-spot.result) c.from-length.result c.if-position-from-2.true,
+      lt-ltb (c.args.x.position + way) c.args.spot.length (omega (arith, w, c.requires.1)),
+    )
