@@ -4,10 +4,10 @@ use mathlib.Core.Path.{◌≡◌, refl, sym, ◌∙◌}
 use mathlib.Core.List.{List, [], ◌∷◌}
 use native.Mathlib.Omega.{arith}
 use lib.ListN.{length, get_or, drop, replicate, length-append, drop_of_length-le}
-use lib.Seq.{drop-cons, take_all}
+use lib.Seq.{drop-cons}
 use native.Mathlib.Numerals.{add-one}
 use borrow.Author.Tests.{eq-eqb, ne_eqb}
-use Rattle.file.specs.Bytes.{two, four, put_at}
+use Rattle.file.specs.Bytes.{put_at}
 use Rattle.file.specs.Layout.{file_size}
 use Rattle.file.proofs.Rows.{put_nothing, put_next, put_over}
 use Rattle.tables.specs.Tables.{blank_tables}
@@ -16,23 +16,6 @@ use Rattle.trains.specs.declared.Train.{Train}
 use Rattle.trains.specs.Train.{most_trains, off}
 use Rattle.area.specs.declared.Area.{Area}
 use Rattle.state.specs.State.{train_bytes, train_rows, head_size, head_bytes, state_bytes, state_size, tables_of}
-
--- the fourteen bytes of a train that hold something, put into zeros; p, v, n and l are the bytes of its position, speed, count and length
-pub train_put :
-    (x : Train) {p v n l : List ℕ} → p ≡ four x.position → v ≡ two x.speed → n ≡ two x.count → l ≡ two x.length
-    → put_at 0
-    (x.route ∷ x.place ∷ x.asks ∷ 0 ∷ get_or p 0 0 ∷ get_or p 1 0 ∷ get_or p 2 0 ∷ get_or p 3 0 ∷ get_or v 0 0 ∷ get_or v 1 0 ∷ get_or n 0 0 ∷ get_or n 1 0
-    ∷ get_or l 0 0 ∷ get_or l 1 0 ∷ [])
-    (replicate 32 0)
-    ≡ train_bytes x
-unfolding put_at
-train_put x e f g h = rw (e, f, g, h)
-
--- 64 bytes of zeros into which the step due and the allocations are put
-pub head_put :
-    (due : ℕ) (allocations : List ℕ) → length allocations ≡ 62 → put_at 1 allocations (due ∷ replicate 63 0) ≡ head_bytes due allocations
-unfolding put_at
-head_put due allocations long = rw (long, take_all 63 allocations (omega arith))
 
 -- the rows of the trains from index i on are left to put
 pub record Left (trains : List Train) (old : List ℕ) (i : ℕ) (new : List ℕ) : Type 0 where

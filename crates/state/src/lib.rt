@@ -1,129 +1,99 @@
 // The running state of an area as bytes, into a lent buffer and from one. The layout is in docs/FORMATS.md.
 #![tactic(auto)]
 
-ghost use Rattle.std.specs.Prelude.{◌≡◌, ◌+◌};
-ghost use Rattle.lists.specs.Words.{tabulate};
-ghost use Rattle.file.specs.Bytes.{byte_at, put_at};
+ghost use Rattle.std.specs.Prelude.{◌≡◌, ◌≤◌, length};
+ghost use Rattle.file.specs.Bytes.{put_at};
 ghost use Rattle.trains.specs.Train.{most_trains};
-ghost use Rattle.state.specs.State.{train_bytes, train_rows, head_size, head_bytes, state_bytes, state_into, tables_of, train_of, record_of, ReadsBack};
+ghost use Rattle.state.specs.State.{train_bytes, train_rows, head_size, head_bytes, state_into, tables_of, train_of, record_of, ReadsBack};
 
 use area::Area;
+use decoding::decode;
+use file::File;
+use lists::tabulate;
+use octets::{byte, four, four_at, put, two, two_at};
 use tables::Tables;
 use trains::Train;
 
 fn train_bytes(x: Train) -> [u8; 32]
     ensures { result ≡ train_bytes x }
 {
-    let p = octets::four(x.position);
-    let v = octets::two(x.speed);
-    let n = octets::two(x.count);
-    let l = octets::two(x.length);
-    let held = [
-        x.route, x.place, x.asks, 0, p[0], p[1], p[2], p[3], v[0], v[1], n[0], n[1], l[0], l[1],
-    ];
-    let mut row = [0u8; 32];
-    octets::put(&mut row, 0, &held);
+    let [p0, p1, p2, p3] = four(x.position);
+    let [v0, v1] = two(x.speed);
+    let [n0, n1] = two(x.count);
+    let [l0, l1] = two(x.length);
+    let mut row = [0; 32];
+    row[..14].copy_from_slice(&[
+        x.route, x.place, x.asks, 0, p0, p1, p2, p3, v0, v1, n0, n1, l0, l1,
+    ]);
     row
 }
 
-fn head_bytes(due: u8, allocations: [u8; 62]) -> [u8; 64]
-    ensures { result ≡ head_bytes due allocations }
+fn head_bytes(due: u8, allocations: &[u8; 62]) -> [u8; 64]
+    ensures { result ≡ head_bytes due allocations.now }
 {
-    let mut head = [0u8; 64];
+    let mut head = [0; 64];
     head[0] = due;
-    octets::put(&mut head, 1, &allocations);
+    head[1..63].copy_from_slice(allocations);
     head
 }
 
-fn write_trains(trains: [Train; 24], buffer: &mut [u8])
-    ensures { buffer.new ≡ put_at head_size (train_rows trains) buffer.old }
+fn put_trains(trains: &[Train; 24], bytes: &mut [u8])
+    ensures bytes_after { bytes.new ≡ put_at head_size (train_rows trains.now) bytes.old }
+    ensures many { length trains.now ≡ most_trains }
 {
-    for i in 0..24 {
-        let row = train_bytes(trains[i]);
-        octets::put(buffer, (64 + 32 * i) as u16, &row);
+    for (i, x) in trains.iter().enumerate() {
+        put(bytes, (64 + 32 * i) as u16, &train_bytes(*x));
     }
-}
-
-fn state_bytes(area: Area) -> [u8; 832]
-    ensures { result ≡ state_bytes area }
-{
-    let allocations = area.allocations;
-    let trains = area.trains;
-    let head = head_bytes(area.due, allocations);
-    let mut bytes = [0u8; 832];
-    octets::put(&mut bytes, 0, &head);
-    write_trains(trains, &mut bytes);
-    bytes
 }
 
 // Writes the state into a buffer, as far as that has room. Its bytes are made apart: in an array of a known size the places of the
 // rows need no test, and the buffer's room is looked at once.
-pub fn write_state(area: Area, buffer: &mut [u8])
-    ensures buffer_after { buffer.new ≡ state_into area buffer.old }
-    ensures reads_back { ReadsBack area buffer.old buffer.new }
+pub fn write_state(area: &Area, buffer: &mut [u8])
+    ensures buffer_after { buffer.new ≡ state_into area.now buffer.old }
+    ensures reads_back { ReadsBack area.now buffer.old buffer.new }
 {
-    let bytes = state_bytes(area);
-    octets::put(buffer, 0, &bytes);
+    let mut bytes = [0; 832];
+    put(&mut bytes, 0, &head_bytes(area.due, &area.allocations));
+    put_trains(&area.trains, &mut bytes);
+    put(buffer, 0, &bytes);
 }
 
 // ---- any record at all, from bytes
 fn tables_of(file: &[u8]) -> Tables
     ensures { result ≡ tables_of file.now }
 {
-    if file.len() != file::FILE_SIZE {
-        return lookups::blank_tables();
+    match <&File>::try_from(file) {
+        Ok(file) => decode(file),
+        Err(_) => Tables::blank(),
     }
-    decoding::decode(file)
 }
 
-fn allocations_of(state: &[u8]) -> [u8; 62]
-    ensures { result ≡ tabulate 62 (byte_at state.now) }
+#[tactic(auto, unfolding(crate::specs::State::train_of))]
+fn train_of(state: &[u8], t: u16) -> Train
+    requires { (1 ≤ t) × (t ≤ most_trains) }
+    ensures { result ≡ train_of state.now t }
 {
-    let mut new = [0u8; 62];
-    for i in 0..62 {
-        new[i] = octets::byte(state, i + 1);
-    }
-    new
-}
-
-// Train i + 1.
-fn train_of(state: &[u8], i: u8) -> Train
-    ensures { result ≡ train_of state.now (i + 1) }
-{
-    let start = 64 + 32 * (i as u16);
-    let at = start as usize;
+    let start = 64 + 32 * (t - 1);
+    let at = usize::from(start);
     Train {
-        route: octets::byte(state, at),
-        place: octets::byte(state, at + 1),
-        position: octets::four_at(state, start + 4),
-        speed: octets::two_at(state, start as u32 + 8),
-        asks: octets::byte(state, at + 2),
-        count: octets::two_at(state, start as u32 + 10),
-        length: octets::two_at(state, start as u32 + 12),
+        route: byte(state, at),
+        place: byte(state, at + 1),
+        position: four_at(state, start + 4),
+        speed: two_at(state, u32::from(start) + 8),
+        asks: byte(state, at + 2),
+        count: two_at(state, u32::from(start) + 10),
+        length: two_at(state, u32::from(start) + 12),
     }
 }
 
-fn trains_of(state: &[u8]) -> [Train; 24]
-    ensures { result ≡ tabulate most_trains (train_of state.now) }
-{
-    let off = standing::train_off();
-    let mut new = [off; 24];
-    for i in 0..24 {
-        new[i] = train_of(state, i as u8);
-    }
-    new
-}
-
+#[tactic(auto, unfolding(crate::specs::State::record_of))]
 pub fn record_of(file: &[u8], state: &[u8]) -> Area
     ensures { result ≡ record_of file.now state.now }
 {
-    let tables = tables_of(file);
-    let allocations = allocations_of(state);
-    let trains = trains_of(state);
     Area {
-        tables,
-        allocations,
-        trains,
-        due: octets::byte(state, 0),
+        tables: tables_of(file),
+        allocations: tabulate(|s| byte(state, usize::from(s))),
+        trains: tabulate(|t| train_of(state, t)),
+        due: byte(state, 0),
     }
 }

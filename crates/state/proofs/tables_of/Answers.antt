@@ -1,9 +1,11 @@
-use mathlib.Core.Path.{◌∙◌}
+-- The bytes are read where they have a file's size.
+use mathlib.Core.Path.{◌∙◌, ap}
+use Rattle.decoding.specs.Decoding.{decoded}
 use Rattle.state.proofs.Laws.{tables_blank, tables_decoded}
 use Rattle.state.proofs.tables_of.Goals as goal
 
-pub returns-then-file-ne-FILE_SIZE : goal.returns-then-file-ne-FILE_SIZE
-returns-then-file-ne-FILE_SIZE c = c.blank_tables.ensures ∙ tables_blank _ c.if-file-ne-FILE_SIZE.true
+pub returns-in-Ok : goal.returns-in-Ok
+returns-in-Ok c = c.decode.ensures ∙ ap decoded c.in-Ok.ensures.1.same ∙ tables_decoded _ c.in-Ok.ensures.1.long
 
-pub returns : goal.returns
-returns c = c.decode.ensures ∙ tables_decoded _ c.if-file-ne-FILE_SIZE.false
+pub returns-in-Err : goal.returns-in-Err
+returns-in-Err c = c.blank.ensures ∙ tables_blank _ c.in-Err.ensures.1
