@@ -1,122 +1,108 @@
-// From a file to its verdict and its tables. The file is lent and only read.
+// From a file to its tables, or to the first rule that it breaks. The file is lent and only read.
 #![tactic(auto)]
 
-ghost use Rattle.std.specs.Prelude.{◌≡◌, ◌<◌, ◌+◌, length};
-ghost use Rattle.lists.specs.Words.{first_failing};
+ghost use Rattle.std.specs.Prelude.{◌≡◌, ◌≤◌, ℕ, [], ◌∷◌, IfOk};
+ghost use Rattle.lists.specs.Words.{first_failing, found};
 ghost use Rattle.lists.specs.Tests.{first_of};
-ghost use Rattle.file.specs.Blocks.{file_size};
+ghost use Rattle.answers.specs.Refusals.{refusal_number};
+ghost use Rattle.file.specs.Blocks.{first_damaged, first_misfiled};
 ghost use Rattle.tables.specs.Bounds.{most_segments, bounds};
-ghost use Rattle.reading.specs.Verdict.{header_filed, reserved, record_ok, table_tests, reading_by, reading_of, refused_reading};
+ghost use Rattle.decoding.specs.Decoding.{decoded};
+ghost use Rattle.reading.specs.Verdict.{header_filed, reserved, record_ok, at_block, at_number, table_tests, told_fault, read_as, reading_of};
 
-use reading::Reading;
+use answers::Refusal;
+use blocks::{block_of, first_damaged, first_misfiled};
+use decoding::{decode, segment_block, segment_start};
+use file::File;
+use lists::first_failing;
+use octets::{are_zeros, byte};
+use reading::Fault;
+use records::{header_ok, margin_ok, segment_ok};
+use routes::first_bad_route;
+use rules::{first_dropping, first_unjoined, first_unordered};
 use tables::{MOST_SEGMENTS, Tables};
 
-fn is_header_filed(file: &[u8]) -> bool
-    requires { length file.now ≡ file_size }
+#[tactic(auto, unfolding(reading::specs::Verdict::header_filed))]
+fn is_header_filed(file: &File) -> bool
     ensures { result ≡ header_filed file.now }
 {
-    let header = blocks::block_of(file, 0);
-    (octets::byte(header, 0) == 1)
-        & (octets::byte(header, 3) == 0)
-        & octets::are_zeros(header, 12, 495)
+    let header = block_of(file, 0);
+    byte(header, 0) == 1 && byte(header, 3) == 0 && are_zeros(header, 12, 495)
 }
 
-// The five zeros that end segment record i + 1.
-fn is_reserved(file: &[u8], i: usize) -> bool
-    requires { (i < 62) × (length file.now ≡ file_size) }
-    ensures { result ≡ reserved file.now (i + 1) }
+// The five zeros that end segment record s.
+#[tactic(auto, unfolding(reading::specs::Verdict::reserved))]
+fn is_reserved(file: &File, s: u8) -> bool
+    requires { s ≤ 62 }
+    ensures { result ≡ reserved file.now s }
 {
-    let start = decoding::segment_start(i);
-    octets::are_zeros(decoding::segment_block(file, i), start + 11, start + 15)
+    let start = segment_start(s as u16);
+    are_zeros(segment_block(file, s as u16), start + 11, start + 15)
 }
 
-// The least segment record that breaks rule 6, in what the tables keep of it or in its zeros; 0 where none does.
-fn first_bad_record(file: &[u8], t: Tables) -> u8
-    requires { length file.now ≡ file_size }
-    ensures { result ≡ first_failing most_segments (record_ok bounds file.now t) }
+// The least segment record that breaks rule 6, in what the tables keep of it or in its zeros.
+#[tactic(auto, unfolding(reading::specs::Verdict::record_ok))]
+fn first_bad_record(file: &File, t: &Tables) -> Option<u8>
+    ensures { result ≡ found (first_failing most_segments (record_ok bounds file.now t.now)) }
 {
-    let mut i: u8 = 0;
-    while i < MOST_SEGMENTS {
-        let zeros = is_reserved(file, i as usize);
-        i += 1;
-        let row = lookups::row_of(&t.lengths, &t.limits, &t.next, &t.previous, &t.flags, i);
-        if !(records::row_ok(t.segments, t.gmax, t.margin, i, row) & zeros) {
-            return i;
-        }
-    }
-    0
+    first_failing(MOST_SEGMENTS, |s| segment_ok(t, s) & is_reserved(file, s))
 }
 
-fn refused(number: u8, place: u16) -> Reading
-    ensures { result ≡ refused_reading number place }
+// A refusal at the block that was found; blocks are found counted from 1, and their places are counted from 0.
+fn no_block(refusal: Refusal, block: Option<u8>) -> Result<(), Fault>
+    ensures { (k : ℕ) → block ≡ found k → told_fault result ≡ first_of (at_block k (refusal_number refusal) ∷ []) }
 {
-    Reading {
-        number,
-        place,
-        tables: lookups::blank_tables(),
+    match block {
+        Some(n) => Err(Fault {
+            refusal,
+            place: (n as u16).saturating_sub(1),
+        }),
+        None => Ok(()),
     }
 }
 
-// Rules 4 to 10 of a file that meets 1 to 3.
-fn judge(file: &[u8], t: Tables) -> Reading
-    requires { length file.now ≡ file_size }
-    ensures { result ≡ reading_by (first_of (table_tests bounds file.now t)) t }
+// A refusal at the record, segment or route that was found.
+fn none_at(refusal: Refusal, place: Option<u8>) -> Result<(), Fault>
+    ensures { (k : ℕ) → place ≡ found k → told_fault result ≡ first_of (at_number k (refusal_number refusal) ∷ []) }
 {
-    if !(is_header_filed(file)
-        & records::header_ok(t.segments, t.routes, t.gmax, t.braking, t.margin))
-    {
-        return refused(4, 0);
-    }
-    if !records::margin_ok(t.gmax, t.braking, t.margin) {
-        return refused(5, 0);
-    }
-    let record = first_bad_record(file, t);
-    if 0 < record {
-        return refused(6, record as u16);
-    }
-    let unjoined = rules::first_breaking(7, &t.limits, &t.next, &t.previous, t.braking, t.segments);
-    if 0 < unjoined {
-        return refused(7, unjoined as u16);
-    }
-    let unordered = rules::first_breaking(
-        8,
-        &t.limits,
-        &t.next,
-        &t.previous,
-        t.braking,
-        t.segments,
-    );
-    if 0 < unordered {
-        return refused(8, unordered as u16);
-    }
-    let dropping = rules::first_breaking(9, &t.limits, &t.next, &t.previous, t.braking, t.segments);
-    if 0 < dropping {
-        return refused(9, dropping as u16);
-    }
-    let route = routes::first_bad_route(&t.next, &t.routebytes, t.segments, t.routes);
-    if 0 < route {
-        return refused(10, route as u16);
-    }
-    Reading {
-        number: 0,
-        place: 0,
-        tables: t,
+    match place {
+        Some(n) => Err(Fault {
+            refusal,
+            place: n as u16,
+        }),
+        None => Ok(()),
     }
 }
 
-pub fn read(file: &[u8]) -> Reading
-    ensures { result ≡ reading_of file.now }
+// Rules 2 to 10, of a file of the right size.
+#[tactic(auto, using(crate::proofs::Header::braking_some))]
+fn judge(file: &File) -> Result<Tables, Fault>
+    ensures verdict { told_fault result ≡ first_of (at_block (first_damaged file.now) 2 ∷ at_block (first_misfiled file.now) 3 ∷ table_tests bounds file.now (decoded file.now)) }
+    ensures tables { IfOk result (λ T. T ≡ decoded file.now) }
 {
-    if file.len() != file::FILE_SIZE {
-        return refused(1, 0);
+    no_block(Refusal::Damaged, first_damaged(file))?;
+    no_block(Refusal::Misfiled, first_misfiled(file))?;
+    let t = decode(file);
+    if !is_header_filed(file) || !header_ok(&t) {
+        return Err(Refusal::Header.into());
     }
-    let damaged = blocks::first_damaged(file);
-    if 0 < damaged {
-        return refused(2, damaged as u16 - 1);
+    if !margin_ok(&t) {
+        return Err(Refusal::Margin.into());
     }
-    let misfiled = blocks::first_misfiled(file);
-    if 0 < misfiled {
-        return refused(3, misfiled as u16 - 1);
+    none_at(Refusal::Segment, first_bad_record(file, &t))?;
+    none_at(Refusal::Joint, first_unjoined(&t))?;
+    none_at(Refusal::Order, first_unordered(&t))?;
+    none_at(Refusal::Drop, first_dropping(&t))?;
+    none_at(Refusal::Route, first_bad_route(&t))?;
+    Ok(t)
+}
+
+#[tactic(auto, unfolding(reading::specs::Verdict::reading_of, reading::specs::Verdict::verdict))]
+pub fn read(file: &[u8]) -> Result<Tables, Fault>
+    ensures { read_as result ≡ reading_of file.now }
+{
+    match <&File>::try_from(file) {
+        Ok(file) => judge(file),
+        Err(_) => Err(Refusal::Size.into()),
     }
-    judge(file, decoding::decode(file))
 }

@@ -1,12 +1,21 @@
-// What load finds of a file.
+// What load finds wrong with a file.
 #![tactic(auto)]
 
-use tables::Tables;
+ghost use Rattle.std.specs.Prelude.{◌≡◌};
 
-// The number and the place of the first rule that is broken, 0 and 0 where none is, and the tables, all zero where one is.
-#[derive(Clone, Copy)]
-pub struct Reading {
-    pub number: u8,
+use answers::Refusal;
+
+// The first rule that is broken, and its place: the least block, record, segment or route that breaks it; 0 for a rule that names none.
+#[derive(Clone, Copy, Debug, PartialEq, Eq)]
+pub struct Fault {
+    pub refusal: Refusal,
     pub place: u16,
-    pub tables: Tables,
+}
+
+impl From<Refusal> for Fault {
+    ghost from_gives = { λ refusal fault. fault ≡ record { refusal = refusal; place = 0 } };
+
+    fn from(refusal: Refusal) -> Fault {
+        Fault { refusal, place: 0 }
+    }
 }
