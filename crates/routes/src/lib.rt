@@ -10,81 +10,89 @@ ghost use Rattle.tables.specs.Rules.{rest_in, used_route_ok, unused_route_ok, ro
 use lists::first_failing;
 use tables::{LONGEST_ROUTE, MOST_ROUTES, Tables, links_to};
 
-// The byte of a record at a place, read straight: the count at 0, and then the segments.
-fn route_byte(t: &Tables, r: u8, p: u8) -> u8
-    requires { (1 ≤ r) × (r ≤ most_routes) × (p ≤ longest_route) }
-    ensures { result ≡ segment_at t.now.routebytes r p }
-{
-    t.routebytes[32 * (r as usize) - 32 + (p as usize)]
-}
-
 fn is_within(n: u8, most: u8) -> bool
     ensures { result ≡ (leb 1 n && leb n most) }
 {
     (1..=most).contains(&n)
 }
 
-// The places after the count are zero.
-fn rest_zero(t: &Tables, r: u8, count: u8) -> bool
-    requires number { (1 ≤ r) × (r ≤ most_routes) }
-    requires counted { count ≡ count_of t.now.routebytes r }
-    ensures { result ≡ every longest_route (rest_in t.now.routebytes r) }
-{
-    for p in count..LONGEST_ROUTE {
-        if route_byte(t, r, p + 1) != 0 {
-            return false;
-        }
-    }
-    true
+// A route record of the tables, by its number.
+#[derive(Clone, Copy)]
+struct Record<'a> {
+    t: &'a Tables,
+    r: u8,
+    ghost numbered: { (1 ≤ r) × (r ≤ most_routes) },
 }
 
-// A route is walked up to its count, each place with the segment before it in hand.
-fn used_route_ok(t: &Tables, r: u8) -> bool
-    requires { (1 ≤ r) × (r ≤ most_routes) }
-    ensures { result ≡ used_route_ok t.now.next t.now.routebytes t.now.segments r }
-{
-    let count = t.count(r);
-    if !is_within(count, LONGEST_ROUTE) {
-        return false;
+impl<'a> Record<'a> {
+    // The byte at a place, read straight: the count at 0, and then the segments.
+    fn byte(&self, p: u8) -> u8
+        requires { p ≤ longest_route }
+        ensures { result ≡ segment_at self.now.t.now.routebytes self.now.r p }
+    {
+        self.t.routebytes[32 * (self.r as usize) - 32 + (p as usize)]
     }
-    if !rest_zero(t, r, count) {
-        return false;
+
+    // The places after the count are zero.
+    fn is_blank_after(&self, count: u8) -> bool
+        requires { count ≡ count_of self.now.t.now.routebytes self.now.r }
+        ensures { result ≡ every longest_route (rest_in self.now.t.now.routebytes self.now.r) }
+    {
+        for p in count..LONGEST_ROUTE {
+            if self.byte(p + 1) != 0 {
+                return false;
+            }
+        }
+        true
     }
-    let mut before = route_byte(t, r, 1);
-    if !is_within(before, t.segments) {
-        return false;
-    }
-    for p in 1..count {
-        let segment = route_byte(t, r, p + 1);
-        if !is_within(segment, t.segments) {
+
+    // The route is walked up to its count, each place with the segment before it in hand.
+    fn used_ok(&self) -> bool
+        ensures { result ≡ used_route_ok self.now.t.now.next self.now.t.now.routebytes self.now.t.now.segments self.now.r }
+    {
+        let t = self.t;
+        let count = t.count(self.r);
+        if !is_within(count, LONGEST_ROUTE) {
             return false;
         }
-        if !links_to(&t.next, before, segment) {
+        if !self.is_blank_after(count) {
             return false;
         }
-        before = segment;
+        let mut before = self.byte(1);
+        if !is_within(before, t.segments) {
+            return false;
+        }
+        for p in 1..count {
+            let segment = self.byte(p + 1);
+            if !is_within(segment, t.segments) {
+                return false;
+            }
+            if !links_to(&t.next, before, segment) {
+                return false;
+            }
+            before = segment;
+        }
+        true
     }
-    true
-}
 
-// The 32 bytes of the record are compared at one stroke.
-fn unused_route_ok(t: &Tables, r: u8) -> bool
-    requires { (1 ≤ r) × (r ≤ most_routes) }
-    ensures { result ≡ unused_route_ok t.now.routebytes r }
-{
-    let first = 32 * (r as usize) - 32;
-    t.routebytes[first..first + 32] == [0; 32]
-}
+    // The 32 bytes are compared at one stroke.
+    fn unused_ok(&self) -> bool
+        ensures { result ≡ unused_route_ok self.now.t.now.routebytes self.now.r }
+    {
+        let first = 32 * (self.r as usize) - 32;
+        let t = self.t;
+        t.routebytes[first..first + 32] == [0; 32]
+    }
 
-#[tactic(auto, unfolding(tables::specs::Rules::route_in))]
-fn route_ok(t: &Tables, r: u8) -> bool
-    requires { (1 ≤ r) × (r ≤ most_routes) }
-    ensures { result ≡ route_ok t.now r }
-{
-    if r <= t.routes {
-        used_route_ok(t, r)
-    } else {
-        unused_route_ok(t, r)
+    #[tactic(auto, unfolding(tables::specs::Rules::route_in))]
+    fn is_ok(&self) -> bool
+        ensures { result ≡ route_ok self.now.t.now self.now.r }
+    {
+        if self.r <= self.t.routes {
+            self.used_ok()
+        } else {
+            self.unused_ok()
+        }
     }
 }
 
@@ -92,5 +100,10 @@ fn route_ok(t: &Tables, r: u8) -> bool
 pub fn first_bad_route(t: &Tables) -> Option<u8>
     ensures { result ≡ found (first_failing most_routes (route_ok t.now)) }
 {
-    first_failing(MOST_ROUTES, |r| route_ok(t, r))
+    first_failing(
+        MOST_ROUTES,
+        |r| -> bool
+            requires { (1 ≤ r) × (r ≤ most_routes) }
+        { Record { t, r }.is_ok() },
+    )
 }

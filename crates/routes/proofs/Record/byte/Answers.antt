@@ -4,10 +4,10 @@ use mathlib.Core.Path.{◌≡◌, sym}
 use native.Mathlib.Omega.{arith}
 use Rattle.lists.proofs.Numbered.{nth_in}
 use Rattle.tables.specs.Tables.{segment_at}
-use Rattle.routes.proofs.route_byte.Goals as goal
+use Rattle.routes.proofs.Record.byte.Goals as goal
 
 pub returns : goal.returns
 unfolding segment_at
 returns c =
-    let e : 32 * c.args.r - 31 + c.args.p - 1 ≡ 32 * c.args.r - 32 + c.args.p = omega arith in
-    sym (rw e at (nth_in 0 c.args.t.now.routebytes (32 * c.args.r - 31 + c.args.p) (omega arith)))
+    let e : 32 * c.args.self.now.r - 31 + c.args.p - 1 ≡ 32 * c.args.self.now.r - 32 + c.args.p = omega arith in
+    sym (rw e at (nth_in 0 c.args.self.now.t.now.routebytes (32 * c.args.self.now.r - 31 + c.args.p) (omega arith)))

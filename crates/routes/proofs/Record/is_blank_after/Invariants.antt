@@ -3,7 +3,7 @@ use mathlib.Core.Path.{◌≡◌}
 use mathlib.Core.Bool.{true}
 use Rattle.lists.specs.Words.{every}
 use Rattle.tables.specs.Rules.{rest_in}
-use Rattle.routes.proofs.rest_zero.Given as goal
+use Rattle.routes.proofs.Record.is_blank_after.Given as goal
 
 abbrev pub invariant-loop-p : goal.invariant-loop-p
-invariant-loop-p l = every l.p (rest_in l.t.routebytes l.r) ≡ true
+invariant-loop-p l = every l.p (rest_in l.self.t.now.routebytes l.self.r) ≡ true
