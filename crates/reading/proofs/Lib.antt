@@ -1,2 +1,3 @@
 pub mod Accepted
 pub mod Wider
+pub mod Results

@@ -1,13 +1,13 @@
 -- The route view: its part lies in the file, it is empty exactly where it is refused, and it lists the route's segments.
 use Prim.Native.Nat.{ℕ, ◌+◌, ◌-◌, ◌*◌, ◌/◌, ◌%◌, ◌≤◌, ◌<◌}
 use mathlib.Core.Path.{◌≡◌, refl, sym, ap, ◌∙◌}
-use mathlib.Core.Bool.{true, false, ◌&&◌}
+use mathlib.Core.Bool.{Bool, true, false, ◌&&◌}
 use mathlib.Core.Logic.{◌↔◌, ◌⊎◌, inl, inr}
 use mathlib.Core.List.{List, []}
 use native.Mathlib.Omega.{arith}
 use lib.ListN.{length, take, drop, length-take, length-drop}
 use lib.Seq.{get_or-take, get_or-drop, ext_get_or}
-use lib.Dec.{leb, eqb}
+use lib.Dec.{leb}
 use borrow.Author.Tests.{leb-true, le-leb}
 use Rattle.lists.specs.Words.{at, tabulate}
 use Rattle.lists.proofs.Numbered.{nth_tabulate, nth_index, length_tabulate}
@@ -18,9 +18,13 @@ use Rattle.file.specs.Blocks.{block}
 use Rattle.tables.specs.Bounds.{most_routes, longest_route}
 use Rattle.tables.specs.Tables.{count_of, segment_at}
 use Rattle.decoding.specs.Decoding.{route_byte_in, decoded}
-use Rattle.reading.specs.Verdict.{verdict, accepted, reading_of}
+use Rattle.std.specs.Prelude.{Result, Ok, Err, MatchResult}
+use Rattle.tables.specs.declared.Tables.{Tables}
+use Rattle.reading.specs.declared.Fault.{Fault}
+use Rattle.reading.specs.Verdict.{accepted, read_as, reading_of}
 use Rattle.view.specs.View.{start_in_file, shown, view_start, view_count, viewed}
-use Rattle.reading.proofs.Accepted.{accepted_iff, number_zero, file_consistent}
+use Rattle.reading.proofs.Accepted.{accepted_iff, file_consistent}
+use Rattle.reading.proofs.Results.{read_means}
 
 -- a byte of a block is a byte of the file
 pub byte_in_block : (file : List ℕ) (k i : ℕ) → i < block_size → byte_at (block file k) i ≡ byte_at file (block_size * k + i)
@@ -48,7 +52,7 @@ pub record Shown (file : List ℕ) (r : ℕ) : Type 0 where
   pub short : byte_at file (start_in_file r) ≤ longest_route
   pub counts : count_of (decoded file).routebytes r ≡ byte_at file (start_in_file r)
 
-pub shown_facts : (file : List ℕ) (r : ℕ) → shown file r ≡ true → Shown file r
+shown_facts : (file : List ℕ) (r : ℕ) → shown file r ≡ true → Shown file r
 unfolding shown count_of
 shown_facts file r h =
     let f = simp and_iff at h in
@@ -71,11 +75,11 @@ shown_facts file r h =
     }
 
 module _ (file : List ℕ) (r : ℕ) where
-  pub view_on : shown file r ≡ true → (view_start file r ≡ start_in_file r + 1) × (view_count file r ≡ byte_at file (start_in_file r))
+  view_on : shown file r ≡ true → (view_start file r ≡ start_in_file r + 1) × (view_count file r ≡ byte_at file (start_in_file r))
   unfolding view_start view_count
   view_on h = rw h (refl, refl)
 
-  pub view_off : shown file r ≡ false → (view_start file r ≡ 0) × (view_count file r ≡ 0)
+  view_off : shown file r ≡ false → (view_start file r ≡ 0) × (view_count file r ≡ 0)
   unfolding view_start view_count
   view_off h = rw h (refl, refl)
 
@@ -133,9 +137,10 @@ module _ (file : List ℕ) (r : ℕ) where
       (λ h. let s = shown_facts file r h in let v = view_on h in omega (arith, s.size, s.short, s.low, s.most))
       (λ h. let v = view_off h in omega arith)
 
--- what a reading tells of a route number
+-- what a result tells of a route number
 pub shown_by :
-    (file : List ℕ) (r : ℕ)
-    → (eqb (reading_of file).number 0 && leb 1 r && leb r (reading_of file).tables.routes) ≡ shown file r
-unfolding reading_of shown
-shown_by file r = by_test (verdict file).holds (λ h. simp (h, number_zero file)) (λ h. simp h)
+    (file : List ℕ) (r : ℕ) (read : Result Tables Fault) (b : Bool) → read_as read ≡ reading_of file
+    → MatchResult read (λ T. b ≡ (leb 1 r && leb r T.routes)) (λ f. b ≡ false) → b ≡ shown file r
+unfolding shown
+shown_by file r (Ok T) b e m = let f = read_means (Ok T) file e in m ∙ rw (f.0, f.1)
+shown_by file r (Err f) b e m = m ∙ rw (read_means (Err f) file e)

@@ -1,12 +1,12 @@
 // The route view: the part of the caller's file that lists a route's segments.
 #![tactic(auto)]
 
-ghost use Rattle.std.specs.Prelude.{◌≡◌, ◌<◌, ◌+◌};
+ghost use Rattle.std.specs.Prelude.{◌≡◌};
 ghost use Rattle.file.specs.Bytes.{PartAt};
 ghost use Rattle.view.specs.View.{start_in_file, shown, view_start, view_count};
 
-// The place of a route view in its file.
-#[derive(Clone, Copy)]
+// The place of a route view in its file; all zero for the empty one.
+#[derive(Clone, Copy, Debug, Default, PartialEq, Eq)]
 pub struct Part {
     pub start: u32,
     pub count: u32,
@@ -16,29 +16,29 @@ pub struct Part {
 fn is_shown(file: &[u8], route: u16) -> bool
     ensures { result ≡ shown file.now route }
 {
-    let reading = judging::read(file);
-    (reading.number == 0) & (1 <= route) & (route <= reading.tables.routes as u16)
+    judging::read(file).is_ok_and(|t| (1..=t.routes as u16).contains(&route))
 }
 
-// Where route record i + 1 starts in the file.
-fn route_start(i: usize) -> usize
-    requires { i < 30 }
-    ensures { result ≡ start_in_file (i + 1) }
+// Where route record r starts in the file.
+fn route_start(r: u16) -> u32
+    ensures { result ≡ start_in_file r }
 {
+    let i = r.saturating_sub(1) as u32;
     512 * (3 + i / 15) + 32 * (i % 15)
 }
 
 // Where the part that lists the route's segments starts in the file and how many bytes it has; 0 and 0 where there is none to show.
+#[tactic(auto, unfolding(crate::specs::View::view_start, crate::specs::View::view_count))]
 pub fn view_of(file: &[u8], route: u16) -> Part
     ensures { (result.start ≡ view_start file.now route) × (result.count ≡ view_count file.now route) }
 {
     if !is_shown(file, route) {
-        return Part { start: 0, count: 0 };
+        return Part::default();
     }
-    let start = route_start(route as usize - 1);
+    let start = route_start(route);
     Part {
-        start: start as u32 + 1,
-        count: octets::byte(file, start) as u32,
+        start: start + 1,
+        count: octets::byte(file, start as usize) as u32,
     }
 }
 
@@ -57,6 +57,5 @@ pub fn route_view(file: &[u8], route: u16) -> &[u8]
 {
     let view = view_of(file, route);
     let start = view.start as usize;
-    let count = view.count as usize;
-    &file[start..start + count]
+    &file[start..start + view.count as usize]
 }
