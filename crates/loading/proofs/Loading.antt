@@ -8,14 +8,19 @@ use borrow.Author.Tests.{eqb-true, eq-eqb, not-true, not-false}
 use Rattle.lists.proofs.Cases.{by_test}
 use Rattle.lists.proofs.Refusals.{first_none}
 use Rattle.lists.proofs.Numbered.{nth_replicate}
+use Rattle.tables.specs.declared.Tables.{Tables}
 use Rattle.tables.specs.Tables.{blank_tables}
 use Rattle.decoding.specs.Decoding.{decoded}
-use Rattle.reading.specs.Verdict.{verdict, accepted, reading_of}
+use Rattle.reading.specs.Verdict.{verdict, accepted, refused_reading, accepted_reading, reading_of}
 use Rattle.reading.specs.Acceptance.{MeetsRules}
 use Rattle.reading.proofs.Accepted.{load_tests, accepted_iff, number_zero, refusal_placed}
 use Rattle.trains.specs.Train.{off}
-use Rattle.answers.specs.declared.Answer.TheVariants.{Done}
+use Rattle.answers.specs.declared.Answer.TheVariants.{Done, Refused}
+use Rattle.answers.specs.declared.Refusal.{Refusal}
 use Rattle.answers.specs.Answers.{answer_of, number_of, place_of}
+use Rattle.answers.specs.Refusals.{refusal_number}
+use Rattle.answers.proofs.Refusals.{refused_answer}
+use Rattle.area.specs.declared.Outcome.{Outcome}
 use Rattle.loading.specs.Load.{fresh, blank, loaded, AllZero}
 use Rattle.answers.proofs.Answers.{number_of_answer, place_of_answer}
 
@@ -36,6 +41,16 @@ module _ (file : List ℕ) where
       by_test (verdict file).holds
       (λ h. rw (h, blank_fresh))
       (λ h. rw (h, (accepted_verdict h).0, (accepted_verdict h).1))
+
+  -- what is read of it tells the tables of an accepted file, or the refusal and its place
+  pub loaded_done : {T : Tables} → accepted_reading T ≡ reading_of file → ◌≡◌ {A = Outcome} (record { answer = Done; area = fresh T }) (loaded file)
+  unfolding answer_of
+  loaded_done e = rw (← e) at loaded_by_reading
+
+  pub loaded_refused :
+      (r : Refusal) (p : ℕ) → refused_reading (refusal_number r) p ≡ reading_of file
+      → ◌≡◌ {A = Outcome} (record { answer = Refused (refusal_number r) p; area = fresh blank_tables }) (loaded file)
+  loaded_refused r p e = rw (← e, refused_answer r p) at loaded_by_reading
 
   -- THE CLAIM: load answers done if and only if the file meets the ten rules
   pub done_iff : (number_of (loaded file).answer ≡ 0) ↔ MeetsRules file

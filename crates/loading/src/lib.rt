@@ -4,18 +4,20 @@
 ghost use Rattle.std.specs.Prelude.{◌≡◌};
 ghost use Rattle.loading.specs.Load.{fresh, loaded};
 
+use answers::Answer;
 use area::{Area, Outcome};
 use tables::Tables;
+use trains::{Step, Train};
 
+#[tactic(auto, unfolding(crate::specs::Load::fresh))]
 fn fresh_area(tables: Tables) -> Area
     ensures { result ≡ fresh tables }
 {
-    let off = standing::train_off();
     Area {
         tables,
         allocations: [0; 62],
-        trains: [off; 24],
-        due: 0,
+        trains: [Train::off(); 24],
+        due: Step::Speed as u8,
     }
 }
 
@@ -23,11 +25,14 @@ fn fresh_area(tables: Tables) -> Area
 pub fn load(file: &[u8]) -> Outcome
     ensures { result ≡ loaded file.now }
 {
-    let reading = judging::read(file);
-    let answer = answers::answer_of(reading.number, reading.place);
-    let tables = reading.tables;
-    Outcome {
-        answer,
-        area: fresh_area(tables),
+    match judging::read(file) {
+        Ok(tables) => Outcome {
+            answer: Answer::Done,
+            area: fresh_area(tables),
+        },
+        Err(fault) => Outcome {
+            answer: fault.refusal.at(fault.place),
+            area: fresh_area(Tables::blank()),
+        },
     }
 }

@@ -1,5 +1,8 @@
-use Rattle.loading.proofs.Loading.{loaded_by_reading}
+use Rattle.loading.proofs.Loading.{loaded_done, loaded_refused}
 use Rattle.loading.proofs.load.Goals as goal
 
-pub returns : goal.returns
-returns c = simp (c.fresh_area.ensures, c.answer_of-answer.ensures, c.read-reading.ensures) (loaded_by_reading _)
+pub returns-in-Ok : goal.returns-in-Ok
+returns-in-Ok c = rw c.fresh_area.ensures (loaded_done _ c.in-Ok.ensures)
+
+pub returns-in-Err : goal.returns-in-Err
+returns-in-Err c = rw (c.fresh_area-in-Err.ensures, c.at.ensures, c.blank.ensures) (loaded_refused _ _ _ c.in-Err.ensures)
