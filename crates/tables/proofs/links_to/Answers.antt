@@ -21,21 +21,9 @@ by_index links s n h =
     let f : 2 * s - 1 ≡ 2 * s - 2 + 1 = omega arith in
     rw (nth_in 0 links (2 * s - 1) (omega arith), nth_in 0 links (2 * s) (omega arith), e, f)
 
-pub overflow_sub-i : goal.overflow_sub-i
-overflow_sub-i c = let f = simp facts at c.if-s.true in omega arith
-
-pub bounds-links-i : goal.bounds-links-i
-bounds-links-i c = let f = simp facts at c.if-s.true in omega arith
-
 pub returns-then-links-i : goal.returns-then-links-i
 returns-then-links-i c =
     let f = simp facts at c.if-s.true in rw (by_index c.args.links.now c.args.s c.args.n f.0, eq-eqb _ _ c.if-links-i.true)
-
-pub overflow_add-result : goal.overflow_add-result
-overflow_add-result c = let f = simp facts at c.if-s.true in omega arith
-
-pub bounds-links-i-then-s : goal.bounds-links-i-then-s
-bounds-links-i-then-s c = let f = simp facts at c.if-s.true in omega arith
 
 pub returns-then-s : goal.returns-then-s
 returns-then-s c =
