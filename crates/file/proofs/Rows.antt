@@ -1,50 +1,12 @@
 -- A row of bytes that is being put into a buffer, and rows put one after the other, which are one row.
-use Prim.Native.Nat.{ℕ, zero, suc, ◌+◌, ◌-◌, ◌≤◌, ◌<◌}
-use mathlib.Core.Path.{◌≡◌, refl, sym, ap, ◌∙◌}
+use Prim.Native.Nat.{ℕ, zero, suc, ◌+◌, ◌-◌, ◌≤◌}
+use mathlib.Core.Path.{◌≡◌, sym, ap}
 use mathlib.Core.List.{List, [], ◌∷◌, ◌++◌, append-nil}
 use native.Mathlib.Nat.{suc-add, zero-add}
-use native.Mathlib.Numerals.{add-one}
 use native.Mathlib.Omega.{arith}
-use lib.ListN.{length, get_or, set, length-set, drop_of_length-le}
-use lib.Seq.{paste, paste-zero, paste-suc, take_all, take-nil, drop-nil}
+use lib.ListN.{length, drop_of_length-le}
+use lib.Seq.{paste-zero, take_all, take-nil, drop-nil}
 use Rattle.file.specs.Bytes.{put_at}
-
--- the first j bytes of a row are put
-pub record Putting (at : ℕ) (row old : List ℕ) (j : ℕ) (new : List ℕ) : Type 0 where
-  pub some : j ≤ length row
-  pub room : j ≤ length old - at
-  pub long : length new ≡ length old
-  pub made : new ≡ paste old at row j
-
-module _ {at : ℕ} {row old : List ℕ} where
-  pub put_begin : Putting at row old 0 old
-  put_begin = record { some = omega arith; room = omega arith; long = refl; made = paste-zero old at row }
-
-  module _ {j : ℕ} {new : List ℕ} (p : Putting at row old j new) where
-    pub put_more : j < length row → at + j < length new → Putting at row old (j + 1) (set new (at + j) (get_or row j 0))
-    put_more below free =
-        let free' : at + j < length old = omega (arith, p.long) in
-        record {
-          some = omega arith;
-          room = omega arith;
-          long = length-set new (at + j) (get_or row j 0) ∙ p.long;
-          made = rw (p.made, add-one j) (paste-suc old at row j 0 free' below);
-        }
-
-    -- the row is at its end, or the buffer
-    pub put_whole : length row ≤ j → new ≡ put_at at row old
-    unfolding put_at
-    put_whole h =
-        let e : j ≡ length row = omega (arith, p.some) in
-        p.made ∙ rw (e, take_all (length row) row (omega arith), take_all (length old - at) row (omega (arith, p.room)))
-
-    pub put_full : length new ≤ at + j → new ≡ put_at at row old
-    unfolding put_at
-    put_full h =
-        let e : j ≡ length old - at = omega (arith, p.long, p.room) in
-        let end : length old ≤ at + j = omega (arith, p.long) in
-        let end' : length old ≤ at + length row = omega (arith, p.some) in
-        p.made ∙ rw (drop_of_length-le old end, drop_of_length-le old end', e)
 
 pub put_nothing : (at : ℕ) (old : List ℕ) → put_at at [] old ≡ old
 unfolding put_at

@@ -3,7 +3,6 @@
 --     the least number that passes     invariant  least i p ≡ 0          least_more, least-found
 --     the first number that fails      invariant  Scanned n p i          scan-begin, scan-more, scan-found, scan-over
 --     an array filled entry by entry   invariant  Made n f l old i new   make-begin, make-more, make-over
---     an array computed by number      invariant  Tabled n f i new       table-begin, table_more, table-over
 --     a fold over the entries          foldl f b (take i l)              fold_more
 use Rattle.std.specs.Prelude.{if◌then◌else◌}
 use mathlib.Core.Path.{◌≡◌, refl, sym, ap, ◌∙◌}
@@ -15,10 +14,9 @@ use native.Mathlib.Nat.{le_of_suc-le-suc, not-suc-le-zero, eq-or-lt_of_le}
 use native.Mathlib.Numerals.{add-one}
 use native.Mathlib.Omega.{arith}
 use lib.Dec.{eqb}
-use lib.ListN.{length, get_or, set, take, replicate, length-replicate}
+use lib.ListN.{length, get_or, set, take}
 use lib.Seq.{take-suc}
-use Rattle.lists.specs.Words.{each, tabulate, every, ◌or_else◌, least, first_failing}
-use Rattle.lists.proofs.Numbered.{each_tabulate}
+use Rattle.lists.specs.Words.{each, every, ◌or_else◌, least, first_failing}
 use borrow.Author.Tests.{eq-eqb, ne_eqb, not-true}
 use Rattle.lists.proofs.Cases.{by_test, not_both, cases, lt_or_le, eq_or_ne, test_fails, test_holds}
 
@@ -202,17 +200,6 @@ module _ {A B : Type 0} where
   filled_suc f (suc i) (x ∷ l) (y ∷ old) d h =
       ap (λ (r : List B). f 1 x ∷ r) (filled_suc (λ (k : ℕ). f (suc k)) i l old d (le_of_suc-le-suc h))
 
-  -- no store at the index i, where what f makes of entry i + 1 stands already
-  filled_keep :
-      (f : ℕ → A → B) (i : ℕ) (l : List A) (old : List B) (d : A) (b : B) → i < length l → i < length old
-      → get_or old i b ≡ f (suc i) (get_or l i d) → filled f i l old ≡ filled f (suc i) l old
-  unfolding filled
-  filled_keep f i [] old d b h g e = absurd (not-suc-le-zero h)
-  filled_keep f i (x ∷ l) [] d b h g e = absurd (not-suc-le-zero g)
-  filled_keep f zero (x ∷ l) (y ∷ old) d b h g e = ap (λ (z : B). z ∷ old) e
-  filled_keep f (suc i) (x ∷ l) (y ∷ old) d b h g e =
-      ap (λ (r : List B). f 1 x ∷ r) (filled_keep (λ (k : ℕ). f (suc k)) i l old d b (le_of_suc-le-suc h) (le_of_suc-le-suc g) e)
-
   -- a store at the index i of what f makes of entry i + 1
   fill_step : (f : ℕ → A → B) (i : ℕ) (l : List A) (old new : List B) (d : A) (r : B) → new ≡ filled f i l old → i < length l → r ≡ f (i + 1) (get_or l i d) → set new i r ≡ filled f (i + 1) l old
   fill_step f i l old new d r e h p = rw (p, e, add-one) (filled_suc f i l old d h)
@@ -246,33 +233,8 @@ module _ {A B : Type 0} {n i : ℕ} {f : ℕ → A → B} {l : List A} {old new 
       let h : length l ≡ n = m.source in
       record { source = m.source; target = m.target; made = fill_step f i l old new d r m.made (omega arith) e }
 
-  pub make_keep : (d : A) (b : B) → i < n → get_or old i b ≡ f (i + 1) (get_or l i d) → Made n f l old (i + 1) new
-  make_keep d b below e =
-      let h : length l ≡ n = m.source in
-      let g : length old ≡ n = m.target in
-      record {
-        source = m.source;
-        target = m.target;
-        made = m.made ∙ rw add-one (filled_keep f i l old d b (omega arith) (omega arith) (rw add-one at e));
-      }
-
   pub make_over : n ≤ i → new ≡ each f l
   make_over h = fill_over n f i l old new m.made m.source m.target h
-
--- an array of n zeros whose first i entries are made of their numbers alone
-pub record Tabled (n : ℕ) (f : ℕ → ℕ) (i : ℕ) (new : List ℕ) : Type 0 where
-  pub most : i ≤ n
-  pub made : Made n (λ (k x : ℕ). f k) (replicate n 0) (replicate n 0) i new
-
-pub table_begin : {n : ℕ} {f : ℕ → ℕ} → Tabled n f 0 (replicate n 0)
-table_begin {n} {f} = record { most = omega arith; made = make_begin (length-replicate n 0) (length-replicate n 0) }
-
-module _ {n i : ℕ} {f : ℕ → ℕ} {new : List ℕ} (t : Tabled n f i new) where
-  pub table_more : {r : ℕ} → i < n → r ≡ f (i + 1) → Tabled n f (i + 1) (set new i r)
-  table_more {r} below e = record { most = omega arith; made = make_more t.made 0 below e }
-
-  pub table_over : n ≤ i → new ≡ tabulate n f
-  table_over h = make_over t.made h ∙ each_tabulate f (replicate n 0) n (length-replicate n 0)
 
 -- a fold over one entry more
 pub fold_more : {A B : Type 0} (f : B → A → B) (b : B) (l : List A) (i : ℕ) (d : A) → i < length l → foldl f b (take (i + 1) l) ≡ f (foldl f b (take i l)) (get_or l i d)

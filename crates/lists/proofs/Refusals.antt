@@ -9,8 +9,8 @@ use mathlib.Core.List.{List, [], ◌∷◌}
 use native.Mathlib.Omega.{arith}
 use lib.Dec.{leb, ltb, eqb}
 use borrow.Author.Tests.{eqb-true, eqb-false, lt-ltb, le-ltb, le-leb, lt-leb, eq-eqb, ne_eqb, not-true, not-false}
-use Rattle.lists.specs.Tests.{Test, ◌⇒◌, ◌⇒◌place◌, first_of, condition_of, place_named}
-use Rattle.lists.proofs.Cases.{if_case, by_test, cases, lt_or_le, eq_or_ne, not_both, facts, test_fails, test_holds}
+use Rattle.lists.specs.Tests.{Test, first_of, condition_of, place_named}
+use Rattle.lists.proofs.Cases.{if_case, by_test, cases, lt_or_le, eq_or_ne, not_both, facts}
 
 -- where no test of a list holds, the test of a given number does not: asked for by its number, never by its place in the list
 pub passed : (n : ℕ) (ts : List Test) → (first_of ts).holds ≡ false → condition_of n ts ≡ false
@@ -108,26 +108,6 @@ module _ (top r : ℕ) where
 
   pub is_none : (r < 1) ⊎ (top < r) → (leb 1 r && leb r top) ≡ false
   is_none h = cases h (λ l. rw (lt-leb 1 r l)) (λ l. rw (lt-leb r top l) (and-false (leb 1 r)))
-
--- some tests are left to decide what the whole is; `by` says what it comes to by the test that decides
-pub record Left {A : Type 0} (by : Test → A) (whole : A) (tests : List Test) : Type 0 where
-  pub decide : by (first_of tests) ≡ whole
-
-module _ {A : Type 0} {by : Test → A} {whole : A} {n p : ℕ} {tests : List Test} where
-  -- the first of them refuses, or leaves it to the rest
-  pub refuse : {b : Bool} → Left by whole (b ⇒ n place p ∷ tests) → b ≡ true → by (true ⇒ n place p) ≡ whole
-  refuse left e = rw e at left.decide
-
-  pub leave : {b : Bool} → Left by whole (b ⇒ n place p ∷ tests) → b ≡ false → Left by whole tests
-  leave left e = record { decide = rw e at left.decide }
-
-  -- tested with `if !r`, where r is what the code found
-  module _ {r t : Bool} (found : r ≡ t) (left : Left by whole (not t ⇒ n place p ∷ tests)) where
-    pub refuse_broken : not r ≡ true → by (true ⇒ n place p) ≡ whole
-    refuse_broken e = refuse left (rw (test_fails found e))
-
-    pub leave_met : not r ≡ false → Left by whole tests
-    leave_met e = leave left (rw (test_holds found e))
 
 -- no test of the list names a place
 abbrev pub placeless : List Test → Bool

@@ -1,5 +1,5 @@
 use Rattle.std.proofs.Common.{sym, ap, ◌∙◌, arith, unwrap_or}
-use Rattle.lists.proofs.Numbered.{nth_zero, nth_in, nth_out}
+use Rattle.lists.proofs.Numbered.{nth_zero, nth_in}
 use Rattle.lists.proofs.entry.Goals as goal
 
 pub returns-then-n-eq0 : goal.returns-then-n-eq0

@@ -1,8 +1,8 @@
 -- None fails exactly where all hold.
-use Rattle.std.proofs.Common.{sym, ap, ◌∙◌, ◌≡◌, ℕ, zero, suc, Bool, true, false, not, refl, eqb, arith, Option}
+use Rattle.std.proofs.Common.{sym, ◌∙◌, ◌≡◌, ℕ, zero, suc, Bool, true, false, not, refl, eqb, arith, Option}
 use borrow.Author.Tests.{ne_eqb}
 use Rattle.std.specs.Option.{is_some}
-use Rattle.lists.specs.Words.{first_failing, found}
+use Rattle.lists.specs.Words.{found}
 use Rattle.lists.proofs.Loops.{every_scan}
 use Rattle.lists.proofs.every.Goals as goal
 

@@ -1,5 +1,4 @@
-use Rattle.std.proofs.Common.{refl, sym, ap, arith, ℕ, suc, zero, ◌≡◌, ◌+◌, ◌-◌, ◌<◌, ◌≤◌, ◌∙◌, true, Some, None, not-suc-le-zero, Bool, not}
-use Rattle.lists.specs.Words.{first_failing}
+use Rattle.std.proofs.Common.{refl, sym, ap, arith, ℕ, suc, zero, ◌≡◌, ◌+◌, ◌-◌, ◌≤◌, true, Some, None, not-suc-le-zero, Bool, not}
 use Rattle.lists.proofs.Loops.{Scanned, scan_begin, scan_more, scan_found, scan_over}
 use Rattle.lists.specs.Words.{found}
 use Rattle.lists.proofs.first_failing.Goals as goal

@@ -1,5 +1,4 @@
-use Rattle.std.proofs.Common.{◌≡◌, ℕ, Bool, ◌-◌, ◌≤◌}
-use Rattle.lists.specs.Words.{first_failing}
+use Rattle.std.proofs.Common.{◌≡◌, ℕ, Bool, ◌-◌}
 use Rattle.lists.proofs.Loops.{Scanned}
 use Rattle.lists.proofs.first_failing.Given as goal
 

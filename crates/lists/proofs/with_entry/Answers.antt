@@ -1,5 +1,5 @@
 -- To change an entry only where its number is n is to store at n alone, and to store nothing where there is no entry n.
-use Rattle.std.proofs.Common.{sym, inl, inr, arith}
+use Rattle.std.proofs.Common.{sym, inl, inr}
 use Rattle.lists.proofs.Cases.{cases}
 use Rattle.lists.proofs.Numbered.{store_each, store_none}
 use Rattle.lists.proofs.with_entry.Goals as goal
