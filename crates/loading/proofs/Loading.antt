@@ -22,7 +22,7 @@ use Rattle.answers.specs.Refusals.{refusal_number}
 use Rattle.answers.proofs.Refusals.{refused_answer}
 use Rattle.area.specs.declared.Outcome.{Outcome}
 use Rattle.loading.specs.Load.{fresh, blank, loaded, AllZero}
-use Rattle.answers.proofs.Answers.{number_of_answer, place_of_answer}
+use Rattle.answers.proofs.Answers.{answer_done, number_of_answer, place_of_answer}
 
 module _ (file : List ℕ) where
   blank_fresh : fresh blank_tables ≡ blank
@@ -72,6 +72,15 @@ module _ (file : List ℕ) where
   pub done_answer : accepted file ≡ true → (loaded file).answer ≡ Done
   unfolding loaded answer_of
   done_answer e = rw (accepted_verdict (not-true (verdict file).holds e)).0
+
+  -- a refusal is never numbered 0
+  pub refused_number : {number place : ℕ} → (loaded file).answer ≡ Refused number place → number_of (loaded file).answer ≡ 0 → ⊥
+  unfolding loaded
+  refused_number {number} {place} e z =
+      let n = (verdict file).number in
+      let p = (verdict file).place in
+      let done : Done ≡ Refused number place = sym (answer_done n p (sym (number_of_answer n p) ∙ z)) ∙ e in
+      cc
 
   -- THE CLAIM: load's refusal gives the blank record
   pub refused_blank : accepted file ≡ false → (loaded file).area ≡ blank

@@ -6,15 +6,18 @@ use mathlib.Core.Bool.{Bool, true, false}
 use mathlib.Core.List.{List, [], ◌∷◌, ◌++◌, map}
 use native.Mathlib.Numerals.{add-one}
 use native.Mathlib.Omega.{arith}
-use lib.ListN.{length, take, drop, set, length-take, length-drop, length-set, take-append-drop}
+use lib.ListN.{length, get_or, take, drop, set, length-take, length-drop, length-set, take-append-drop}
 use lib.Seq.{drop-drop, drop-set-lt, take-suc-set}
+use Rattle.std.proofs.lemmas.List.{set-get_or}
 use borrow.Author.Tests.{eq-eqb, ne_eqb}
-use Rattle.lists.proofs.Cases.{facts}
 use Rattle.decoding.specs.Decoding.{decoded}
 use Rattle.area.specs.declared.Area.{Area}
 use Rattle.area.specs.declared.Outcome.{Outcome}
+use Rattle.answers.specs.declared.Answer.{Answer}
+use Rattle.answers.specs.declared.Answer.TheVariants.{Done, Refused}
 use Rattle.answers.specs.Answers.{number_of}
 use Rattle.loading.specs.Load.{loaded}
+use Rattle.loading.proofs.Loading.{refused_number}
 use Rattle.separation.specs.Calls.{Call, called}
 use Rattle.separation.specs.Runs.{World, next, after_from, begin, after}
 use Rattle.separation.specs.Claim.{Separated}
@@ -67,10 +70,10 @@ rest_all : (s : List ℕ) (n : ℕ) → rest s n 0 ≡ ran_calls s n
 unfolding rest calls_of ran_calls
 rest_all s n = let e : n - 0 ≡ n = omega arith in rw e (calls_within n (length s) s (omega arith))
 
--- a call's record is whole
-whole_fits : (s : List ℕ) (k : ℕ) → is_call (record_at s k) ≡ true → 32 * (k + 1) ≤ length s
+-- a record that is not whole is no call
+part_short : (s : List ℕ) (k : ℕ) → length (drop (32 * k) s) < 32 → is_call (record_at s k) ≡ false
 unfolding is_call
-whole_fits s k e = let f = simp (facts, length-take, length-drop) at e in omega arith
+part_short s k h = let n : length (record_at s k) ≡ 32 → ⊥ = λ e. (let l = simp length-take at e in omega arith) in rw (ne_eqb (length (record_at s k)) 32 n)
 
 -- the answers' buffer: one more call's number at k, and the whole of it at the end
 one_less : (l m : List ℕ) (k : ℕ) → drop k l ≡ drop k m → drop (k + 1) l ≡ drop (k + 1) m
@@ -99,7 +102,6 @@ pub record Going (s old : List ℕ) (a₀ : Area) (answers : List ℕ) (a : Area
   pub head : map number_of world.answers ≡ take k answers
   pub tail : drop k answers ≡ drop k old
   pub long : length answers ≡ length old
-  pub fits : 32 * k ≤ length s
 
 pub going_begin : (s old : List ℕ) (a : Area) → Going s old a old a 0
 unfolding begin
@@ -113,7 +115,6 @@ going_begin s old a =
       head = refl;
       tail = refl;
       long = refl;
-      fits = omega arith;
     }
 
 module _ (s old : List ℕ) (a₀ : Area) (answers : List ℕ) (a : Area) (k : ℕ) (g : Going s old a₀ answers a k) where
@@ -133,12 +134,14 @@ module _ (s old : List ℕ) (a₀ : Area) (answers : List ℕ) (a : Area) (k : �
         head = one_more number_of g.world.answers _ answers k v g.head h (q ∙ ap (λ (x : Outcome). number_of x.answer) came);
         tail = drop-set-lt (k + 1) answers k v (omega arith) ∙ one_less answers old k g.tail;
         long = length-set answers k v ∙ g.long;
-        fits = whole_fits s k e;
       }
 
   -- what the contract of a run says
   abbrev pub Ended : Type 0
   Ended = (◌≡◌ {A = Ran} (record { area = a; calls = k }) (ran_of a₀ s (length old))) × (answers ≡ written a₀ s old)
+
+  abbrev pub Over : ℕ → Type 0
+  Over i = (◌≡◌ {A = Ran} (record { area = a; calls = k }) (ran_of a₀ s (length old))) × (set answers i (get_or answers i 0) ≡ written a₀ s old)
 
   going_end : rest s (length old) k ≡ [] → Ended
   unfolding after_from
@@ -149,12 +152,40 @@ module _ (s old : List ℕ) (a₀ : Area) (answers : List ℕ) (a : Area) (k : �
         whole answers _ old k _ (sym (ap (λ (x : World). map number_of x.answers) w) ∙ g.head) g.tail n,
       )
 
-  -- no call is left, or no room
-  pub going_no : is_call (record_at s k) ≡ false → Ended
-  going_no e = going_end (rest_no s (length old) k e)
-
+  -- there is no room for another answer; `answers` is then the whole buffer
   pub going_full : length answers ≤ k → Ended
   going_full h = going_end (rest_full s (length old) k (omega (arith, g.long)))
+
+  -- no call is left; the number in hand is put back as it was
+  going_no : is_call (record_at s k) ≡ false → (i : ℕ) → Over i
+  going_no e i =
+      let both = going_end (rest_no s (length old) k e) in
+      (both.0, set-get_or answers i 0 ∙ both.1)
+
+  -- of the script is left what comes after k records
+  module _ {rest : List ℕ} (left : rest ≡ drop (32 * k) s) where
+    pub going_short : length rest < 32 → (i : ℕ) → Over i
+    going_short h = going_no (part_short s k (rw left at h))
+
+    module _ {items : List ℕ} (first : items ≡ take 32 rest) where
+      record_here : items ≡ record_at s k
+      record_here = first ∙ ap (take 32) left
+
+      pub going_other : is_call items ≡ false → (i : ℕ) → Over i
+      going_other e = going_no (rw record_here at e)
+
+      pub going_on :
+          {after : List ℕ} → after ≡ drop 32 rest → {i v : ℕ} {o : Outcome} {c : Call} → i ≡ k → i < length answers → (is_call items ≡ true) × (c ≡ call_of items)
+          → o ≡ called a c → v ≡ number_of o.answer
+          → Going s old a₀ (set answers i v) o.area (k + 1) × (after ≡ drop (32 * (k + 1)) s) × (i + 1 ≡ k + 1)
+      going_on {after} second {i} {v} {o} {c} e h call p q =
+          let d : 32 * k + 32 ≡ 32 * (k + 1) = omega arith in
+          let here : is_call (record_at s k) ≡ true = rw record_here at call.0 in
+          let same : c ≡ call_of (record_at s k) = rw record_here at call.1 in (
+            rw e (going_step o v (omega arith) here (rw same at p) q),
+            second ∙ ap (drop 32) left ∙ rw (drop-drop 32 (32 * k) s, d) refl,
+            omega arith,
+          )
 
 -- what the contract of a file's run says of its result and of the buffer
 module _ (file script old : List ℕ) where
@@ -175,14 +206,14 @@ module _ (file script old : List ℕ) where
   done_run z = let e = eq-eqb _ 0 z in (rw e, (rw e, λ _. demand3 file z (ran_calls script (length old))))
 
   -- from what the code found
-  module _ (o : Outcome) (p : o ≡ loaded file) (n : ℕ) (q : n ≡ number_of o.answer) where
-    answered : n ≡ number_of (loaded file).answer
-    answered = q ∙ ap (λ (x : Outcome). number_of x.answer) p
+  module _ (o : Outcome) (p : o ≡ loaded file) where
+    answered : {x : Answer} → o.answer ≡ x → (loaded file).answer ≡ x
+    answered e = ap (λ (y : Outcome). y.answer) (sym p) ∙ e
 
-    pub file_refused : (n ≡ 0 → ⊥) → FileRun (record { answer = o.answer; area = o.area; calls = 0 }) old
-    file_refused h = rw p (refused_run (λ z. h (answered ∙ z)))
+    pub file_refused : {number place : ℕ} → o.answer ≡ Refused number place → FileRun (record { answer = o.answer; area = o.area; calls = 0 }) old
+    file_refused e = rw p (refused_run (refused_number file (answered e)))
 
     pub file_run :
-        n ≡ 0 → (r : Ran) → r ≡ ran_of o.area script (length old) → (answers : List ℕ) → answers ≡ written o.area script old
+        o.answer ≡ Done → (r : Ran) → r ≡ ran_of o.area script (length old) → (answers : List ℕ) → answers ≡ written o.area script old
         → FileRun (record { answer = o.answer; area = r.area; calls = r.calls }) answers
-    file_run z r e answers f = rw (f, e, p) (done_run (sym answered ∙ z))
+    file_run done r e answers f = rw (f, e, p) (done_run (ap number_of (answered done)))

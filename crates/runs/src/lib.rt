@@ -2,16 +2,39 @@
 // calls that the script spells.
 #![tactic(auto)]
 
-ghost use Rattle.std.specs.Prelude.{◌≡◌, length, get_or, take, drop};
+ghost use Rattle.std.specs.Prelude.{◌≡◌, true, false, length};
+ghost use Rattle.std.specs.Option.{MatchOption};
 ghost use Rattle.decoding.specs.Decoding.{decoded};
 ghost use Rattle.answers.specs.Answers.{number_of};
 ghost use Rattle.separation.specs.Calls.{called};
 ghost use Rattle.separation.specs.Claim.{Separated};
-ghost use Rattle.runs.specs.Script.{is_call, call_of, wishes_of};
+ghost use Rattle.runs.specs.Script.{is_call, call_of};
+ghost use Rattle.runs.specs.Spelled.{spelled};
 ghost use Rattle.runs.specs.Ran.{ran_of, written, file_world, file_ran_of, file_written};
 
-use answers::Answer;
+use answers::{Answer, number_of};
 use area::{Area, Outcome};
+use loading::load;
+
+// A call as a record of a script spells it.
+#[derive(Clone, Copy)]
+enum Call<'a> {
+    Enter {
+        train: u16,
+        route: u16,
+        speed: u16,
+        length: u16,
+    },
+    Leave {
+        train: u16,
+    },
+    Speed {
+        wishes: &'a [u16],
+    },
+    Request,
+    Grant,
+    Position,
+}
 
 // The record after the calls, and how many were run.
 #[derive(Clone, Copy)]
@@ -28,61 +51,48 @@ pub struct FileRan {
     pub calls: usize,
 }
 
-// The item at a place, and 0 past the end.
-fn item_at(items: &[u16], at: usize) -> u16
-    ensures { result ≡ get_or items.now at 0 }
+// The call of a whole record; none where it is of another kind.
+#[tactic(auto, unfolding(crate::specs::Script::is_call, crate::specs::Script::call_of, crate::specs::Script::wishes_of))]
+fn call_of(items: &[u16; 32]) -> Option<Call<'_>>
+    ensures { MatchOption result (is_call items.now ≡ false) (λ c. (is_call items.now ≡ true) × (spelled c ≡ call_of items.now)) }
 {
-    if at < items.len() { items[at] } else { 0 }
-}
-
-// So many items from a start, as far as there are any.
-fn part(items: &[u16], start: usize, count: usize) -> &[u16]
-    ensures { result.now ≡ take count (drop start items.now) }
-{
-    let n = items.len();
-    if n <= start {
-        return &items[n..n];
-    }
-    if n - start <= count {
-        return &items[start..n];
-    }
-    &items[start..start + count]
-}
-
-fn is_call(items: &[u16]) -> bool
-    ensures { result ≡ is_call items.now }
-{
-    let kind = item_at(items, 0);
-    (items.len() == 32) & (1 <= kind) & (kind <= 6)
-}
-
-// The wishes of a record, lent as a part of it.
-fn wishes_of(items: &[u16]) -> &[u16]
-    ensures { result.now ≡ wishes_of items.now }
-{
-    let said = item_at(items, 6);
-    let count = if said < 25 { said } else { 25 };
-    part(items, 7, count as usize)
-}
-
-// The call that a record stands for, on an area.
-fn call(area: Area, items: &[u16]) -> Outcome
-    ensures { result ≡ called area (call_of items.now) }
-{
-    let kind = item_at(items, 0);
-    let train = item_at(items, 1);
+    let [kind, train, route, speed, length, _, count, ..] = *items;
     match kind {
-        1 => {
-            let route = item_at(items, 2);
-            let speed = item_at(items, 3);
-            let length = item_at(items, 4);
-            area.enter(train, route, speed, length)
+        1 => Some(Call::Enter {
+            train,
+            route,
+            speed,
+            length,
+        }),
+        2 => Some(Call::Leave { train }),
+        3 => Some(Call::Speed {
+            wishes: &items[7..7 + count.min(25) as usize],
+        }),
+        4 => Some(Call::Request),
+        5 => Some(Call::Grant),
+        6 => Some(Call::Position),
+        _ => None,
+    }
+}
+
+impl Call<'_> {
+    #[tactic(auto, unfolding(separation::specs::Calls::called))]
+    fn on(self, area: Area) -> Outcome
+        ensures { result ≡ called area (spelled self.entry) }
+    {
+        match self {
+            Call::Enter {
+                train,
+                route,
+                speed,
+                length,
+            } => area.enter(train, route, speed, length),
+            Call::Leave { train } => area.leave(train),
+            Call::Speed { wishes } => area.speed(wishes),
+            Call::Request => area.request(),
+            Call::Grant => area.grant(),
+            Call::Position => area.position(),
         }
-        2 => area.leave(train),
-        3 => area.speed(wishes_of(items)),
-        4 => area.request(),
-        5 => area.grant(),
-        _ => area.position(),
     }
 }
 
@@ -92,20 +102,21 @@ pub fn run(area: Area, script: &[u16], answers: &mut [u8]) -> Ran
     ensures value { result ≡ ran_of area script.now (length answers.old) }
     ensures answers_after { answers.new ≡ written area script.now answers.old }
 {
-    let mut a = area;
-    let mut k: usize = 0;
-    while k < answers.len() {
-        let items = part(script, 32 * k, 32);
-        if !is_call(items) {
-            return Ran { area: a, calls: k };
-        }
-        let o = call(a, items);
-        let answer = o.answer;
-        answers[k] = answers::number_of(answer);
-        a = o.area;
-        k += 1;
+    let mut area = area;
+    let mut calls = 0;
+    let mut rest = script;
+    for answer in answers.iter_mut() {
+        let Some((items, after)) = rest.split_first_chunk() else {
+            break;
+        };
+        let Some(call) = call_of(items) else { break };
+        let outcome = call.on(area);
+        *answer = number_of(outcome.answer);
+        area = outcome.area;
+        calls += 1;
+        rest = after;
     }
-    Ran { area: a, calls: k }
+    Ran { area, calls }
 }
 
 // The inspectorate's question, answered by one contract: whatever the bytes and the script, where load answers done, what is
@@ -115,22 +126,18 @@ pub fn run_file(file: &[u8], script: &[u16], answers: &mut [u8]) -> FileRan
     ensures answers_after { answers.new ≡ file_written file.now script.now answers.old }
     ensures separated { number_of result.answer ≡ 0 → Separated (decoded file.now) (file_world file.now script.now (length answers.old)) }
 {
-    let o = loading::load(file);
-    let answer = o.answer;
-    let loaded = o.area;
-    let number = answers::number_of(answer);
-    if number != 0 {
+    let Outcome { answer, area } = load(file);
+    if let Answer::Refused { .. } = answer {
         return FileRan {
             answer,
-            area: loaded,
+            area,
             calls: 0,
         };
     }
-    let ran = run(loaded, script, answers);
-    let area = ran.area;
+    let ran = run(area, script, answers);
     FileRan {
         answer,
-        area,
+        area: ran.area,
         calls: ran.calls,
     }
 }

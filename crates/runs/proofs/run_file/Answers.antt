@@ -1,15 +1,14 @@
--- Load's number decides: after a refusal nothing is run; after done the run starts from the loaded record, and demand 3 holds of every run.
+-- After a refusal nothing is run; after done the run starts from the loaded record, and demand 3 holds of every run.
 use Rattle.runs.proofs.Laws.{file_refused, file_run}
 use Rattle.runs.proofs.run_file.Goals as goal
 
-pub returns-then-number-ne0 : goal.returns-then-number-ne0
-returns-then-number-ne0 c =
-    let all = file_refused _ _ c.args.answers.now _ c.load-o.ensures _ c.number_of-number.ensures c.if-number-ne0.true in
+pub returns-in-Refused : goal.returns-in-Refused
+returns-in-Refused c =
+    let all = file_refused _ _ c.args.answers.now _ c.load-answer.ensures c.in-Refused.is in
     record { value = all.0; answers_after = all.1.0; separated = all.1.1 }
 
 pub returns : goal.returns
 returns c =
     let all =
-    file_run _ _ c.args.answers.now _ c.load-o.ensures _ c.number_of-number.ensures c.if-number-ne0.false _ c.run-ran.ensures.value _
-    c.run-ran.ensures.answers_after in
+    file_run _ _ c.args.answers.now _ c.load-answer.ensures c.in_default.is _ c.run-ran.ensures.value _ c.run-ran.ensures.answers_after in
     record { value = all.0; answers_after = all.1.0; separated = all.1.1 }
