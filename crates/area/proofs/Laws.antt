@@ -17,8 +17,8 @@ use Rattle.answers.proofs.Refusals.{refused_answer}
 use Rattle.area.specs.declared.Area.{Area}
 use Rattle.area.specs.declared.Change.{Change}
 use Rattle.area.specs.Sound.{sound}
-use Rattle.area.specs.Calls.{outcome, changed_by, outcome_of}
-use Rattle.area.specs.Examined.{examined}
+use Rattle.area.specs.Calls.{outcome}
+use Rattle.area.specs.Examined.{examined, changed, outcome_of}
 
 -- what an examination found of a record, by the test of a sound one
 found_by : (A : List Spot) (ok : Bool) (o : Result (List Spot) Refusal) → o ≡ (if ok then Ok A else Err Unsound) → is_ok o ≡ ok
@@ -58,6 +58,6 @@ module _ (rest : List Test) (new old : Area) where
   refused_by r s first = rw (s, ← first, refused_answer r 0) refl
 
   pub finished_by :
-      {c : Change} → sound old ≡ true → ◌≡◌ {A = Test} (record { holds = false; number = 0; place = 0 }) (first_of rest) → changed_by old c ≡ new
+      {c : Change} → sound old ≡ true → ◌≡◌ {A = Test} (record { holds = false; number = 0; place = 0 }) (first_of rest) → changed old c ≡ new
       → outcome_of old (Ok c) ≡ outcome calls new old
   finished_by s first same = rw (s, ← first, answer_done 0 0 refl, same) refl

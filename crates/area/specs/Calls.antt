@@ -1,7 +1,7 @@
 -- The calls on an area (document 01, "The calls" and "Refusals" 11 to 21; document 02, R-4, refusal 23). Each has its tests in the paper's
 -- order, of which the first that holds is the answer, and the record that it hands back when none holds; a refusal hands back the record
 -- as it came.
-use Rattle.std.specs.Prelude.{ℕ, not, List, ◌∷◌, Result, Ok, Err, length, if◌then◌else◌}
+use Rattle.std.specs.Prelude.{ℕ, not, List, ◌∷◌, length, if◌then◌else◌}
 use Rattle.lists.specs.Words.{each}
 use Rattle.lists.specs.Tests.{Test, ◌⇒◌, first_of}
 use Rattle.summary.specs.Summary.{summary_of}
@@ -12,12 +12,8 @@ use Rattle.trains.specs.Grant.{granted, calmed}
 use Rattle.trains.specs.EnterLeave.{first_segment, taken_by, freed_by, becomes, entry_tests, exit_tests}
 use Rattle.area.specs.declared.Area.{Area}
 use Rattle.area.specs.declared.Outcome.{Outcome}
-use Rattle.area.specs.declared.Change.{Change}
 use Rattle.area.specs.declared.Report.{Report}
-use Rattle.answers.specs.declared.Answer.TheVariants.{Done, Refused}
-use Rattle.answers.specs.declared.Refusal.{Refusal}
 use Rattle.answers.specs.Answers.{answer_of}
-use Rattle.answers.specs.Refusals.{refusal_number}
 use Rattle.area.specs.Sound.{sound}
 
 -- the first test that holds refuses; where none does, the step is finished
@@ -26,15 +22,6 @@ outcome_by t new old = record { answer = answer_of t.number t.place; area = if t
 
 abbrev pub outcome : List Test → Area → Area → Outcome
 outcome tests new old = outcome_by (first_of tests) new old
-
--- a record with what a call changed of it: the tables stay
-abbrev pub changed_by : Area → Change → Area
-changed_by a c = record { tables = a.tables; allocations = c.allocations; trains = c.trains; due = c.due }
-
--- the outcome of a call on the record a, by what it changed of it, or by its refusal, which hands the record back as it came
-abbrev pub outcome_of : Area → Result Change Refusal → Outcome
-outcome_of a (Ok c) = record { answer = Done; area = changed_by a c }
-outcome_of a (Err r) = record { answer = Refused (refusal_number r) 0; area = a }
 
 -- ---- enter (train t, journey j, speed v)
 abbrev pub enter_tests : Area → ℕ → Journey → ℕ → List Test

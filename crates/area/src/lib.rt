@@ -7,9 +7,9 @@ ghost use Rattle.std.specs.Prelude.{◌≡◌};
 ghost use Rattle.lists.specs.Tests.{first_of};
 ghost use Rattle.answers.specs.Refusals.{told};
 ghost use Rattle.area.specs.Sound.{sound};
-ghost use Rattle.area.specs.Calls.{outcome_of, enter_call, leave_call, speed_call, request_call, grant_call, position_call, reported};
+ghost use Rattle.area.specs.Calls.{enter_call, leave_call, speed_call, request_call, grant_call, position_call, reported};
 ghost use Rattle.area.specs.Write.{write_tests, write_answer, buffer_after};
-ghost use Rattle.area.specs.Examined.{examined};
+ghost use Rattle.area.specs.Examined.{examined, outcome_of};
 
 use answers::{Answer, Refusal};
 use lists::with_entry;

@@ -1,6 +1,5 @@
 -- A list with one call more is that call on the record after the list, so demand 3 goes on holding of a record that is handed from call to
 -- call; and a refused load gives the blank record, which is unsound, so that every call on it answers 11.
-use Rattle.std.specs.Prelude.{Result, Ok, Err}
 use Prim.Native.Nat.{ℕ, ◌≤◌}
 use mathlib.Core.Path.{◌≡◌, refl, sym, ap, ◌∙◌}
 use mathlib.Core.Bool.{false}
@@ -9,13 +8,11 @@ use native.Mathlib.Omega.{arith}
 use Rattle.lists.proofs.Cases.{is_false}
 use Rattle.reading.specs.Verdict.{accepted}
 use Rattle.reading.proofs.Accepted.{accepted_iff}
-use Rattle.answers.specs.declared.Refusal.{Refusal}
 use Rattle.answers.specs.Answers.{answer_of, number_of, place_of}
 use Rattle.area.specs.declared.Area.{Area}
-use Rattle.area.specs.declared.Change.{Change}
 use Rattle.area.specs.declared.Outcome.{Outcome}
 use Rattle.area.specs.Sound.{sound}
-use Rattle.area.specs.Calls.{outcome_of, enter_call, leave_call, speed_call, request_call, grant_call, position_call}
+use Rattle.area.specs.Calls.{enter_call, leave_call, speed_call, request_call, grant_call, position_call}
 use Rattle.loading.specs.Load.{blank, loaded}
 use Rattle.loading.proofs.Loading.{done_iff, refused_blank}
 use Rattle.loading.proofs.Fresh.{blank_unsound}
@@ -23,7 +20,7 @@ use Rattle.separation.specs.Calls.{Call, Enter, Leave, Speed, Request, Grant, Po
 use Rattle.separation.specs.Runs.{World, next, after_from, begin, after}
 use Rattle.separation.proofs.Lists.{from_more}
 use Rattle.separation.proofs.Demand3.{demand3}
-use Rattle.kept.specs.Kept.{Reached, Kept, Answered, Started, told_number, kept_after}
+use Rattle.kept.specs.Kept.{Reached, Kept, Answered, Started}
 
 area_more : (file : List ℕ) (calls : List Call) (c : Call) → (after file (calls ++ (c ∷ []))).area ≡ (called (after file calls).area c).area
 unfolding after after_from next
@@ -33,26 +30,19 @@ area_more file calls c = ap (λ (w : World). w.area) (from_more (begin (loaded f
 kept : (file : List ℕ) (calls : List Call) (a : Area) → Reached file calls a → Kept file calls a
 kept file calls a r = record { reached = r; separated = demand3 file r.done calls }
 
--- the number and the record of an outcome
-outcome_number : (a : Area) (r : Result Change Refusal) → told_number r ≡ number_of (outcome_of a r).answer
-outcome_number a (Ok r) = refl
-outcome_number a (Err refusal) = refl
-
-outcome_area : (a : Area) (r : Result Change Refusal) → kept_after a r ≡ (outcome_of a r).area
-outcome_area a (Ok r) = refl
-outcome_area a (Err refusal) = refl
-
 -- the record after a call is the one that the call's outcome hands back
-pub answered : (a : Area) (c : Call) (r : Result Change Refusal) → outcome_of a r ≡ called a c → Answered a c (told_number r) (kept_after a r)
-answered a c r e =
-    let same : kept_after a r ≡ (called a c).area = outcome_area a r ∙ ap (λ (o : Outcome). o.area) e in
+pub answered : (a : Area) (c : Call) (o : Outcome) → o ≡ called a c → Answered a c (number_of o.answer) o.area
+answered a c o e =
     record {
-      number = outcome_number a r ∙ ap (λ (o : Outcome). number_of o.answer) e;
-      area = same;
+      number = ap (λ (o : Outcome). number_of o.answer) e;
+      area = ap (λ (o : Outcome). o.area) e;
       onward =
           λ file calls was.
-          kept file (calls ++ (c ∷ [])) (kept_after a r)
-          (record { done = was.done; same = same ∙ ap (λ (x : Area). (called x c).area) was.same ∙ sym (area_more file calls c) });
+          kept file (calls ++ (c ∷ [])) o.area
+          (record {
+            done = was.done;
+            same = ap (λ (o : Outcome). o.area) e ∙ ap (λ (x : Area). (called x c).area) was.same ∙ sym (area_more file calls c);
+          });
     }
 
 -- a call answers 11 and changes nothing

@@ -1,12 +1,9 @@
 -- What is claimed of a record that a caller keeps between calls (document 01, "Whole runs": "Each call is handed the record that the one
 -- before handed back"). a is a record, c a call on it, b the record after the call; n is an answer's number, p its place.
-use Rattle.std.specs.Prelude.{ℕ, ◌≤◌, ◌≡◌, List, [], ◌∷◌, ◌++◌, Result, Ok, Err}
+use Rattle.std.specs.Prelude.{ℕ, ◌≤◌, ◌≡◌, List, [], ◌∷◌, ◌++◌}
 use Rattle.decoding.specs.Decoding.{decoded}
-use Rattle.answers.specs.declared.Refusal.{Refusal}
 use Rattle.answers.specs.Answers.{number_of, place_of}
-use Rattle.answers.specs.Refusals.{refusal_number}
 use Rattle.area.specs.declared.Area.{Area}
-use Rattle.area.specs.declared.Change.{Change}
 use Rattle.loading.specs.Load.{blank, loaded}
 use Rattle.separation.specs.Calls.{Call, called}
 use Rattle.separation.specs.Runs.{after}
@@ -28,19 +25,6 @@ pub record Answered (a : Area) (c : Call) (n : ℕ) (b : Area) : Type 0 where
   pub number : n ≡ number_of (called a c).answer
   pub area : b ≡ (called a c).area
   pub onward : (file : List ℕ) (calls : List Call) → Reached file calls a → Kept file (calls ++ (c ∷ [])) b
-
--- a record with what a call changed of it: the tables stay
-abbrev pub changed : Area → Change → Area
-changed a r = record { tables = a.tables; allocations = r.allocations; trains = r.trains; due = r.due }
-
--- the answer's number of what a call hands back, and the record after it, which a refusal leaves as it was
-abbrev pub told_number : Result Change Refusal → ℕ
-told_number (Ok r) = 0
-told_number (Err refusal) = refusal_number refusal
-
-abbrev pub kept_after : Area → Result Change Refusal → Area
-kept_after a (Ok r) = changed a r
-kept_after a (Err refusal) = a
 
 -- load's answer to a file, and the record that it gives: where the answer is done, the record after the empty list of calls; where it is
 -- not, the blank record, on which every call answers 11 and changes nothing

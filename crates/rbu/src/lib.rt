@@ -15,11 +15,13 @@ ghost use Rattle.separation.specs.Calls.{Enter, Leave, Speed, Request, Grant, Po
 ghost use Rattle.separation.specs.Claim.{Separated};
 ghost use Rattle.runs.specs.Ran.{ran_of, written, file_world, file_ran_of, file_written};
 ghost use Rattle.state.specs.State.{state_into, record_of};
+ghost use Rattle.area.specs.Examined.{outcome_of};
 ghost use Rattle.kept.specs.Kept.{Started, Answered};
 ghost use Rattle.writing.specs.Writing.{Written};
 ghost use Rattle.rbu.specs.After.{area_after, state_after, Continues};
 
-use area::Area;
+use answers::Refusal;
+use area::{Area, Change};
 
 // ---- a record that the caller keeps: any bytes are a record. A function is lent it and writes back what the call hands back.
 // Loads a file into the record: the number of load's answer; its place goes to `place`.
@@ -29,8 +31,28 @@ pub extern "C" fn rbu_start(area: &mut Area, file: &[u8], place: &mut u16) -> u8
 {
     let start = running::start(file);
     *area = start.area;
-    *place = start.place;
-    start.number
+    answers::tell(start.answer, place)
+}
+
+// What a call changes goes into the record, where it is not refused: the number of its answer.
+fn keep(area: &mut Area, change: Result<Change, Refusal>) -> u8
+    ensures number { result ≡ number_of (outcome_of area.old change).answer }
+    ensures area { area.new ≡ (outcome_of area.old change).area }
+{
+    match change {
+        Ok(change) => {
+            let Change {
+                allocations,
+                trains,
+                due,
+            } = change;
+            area.allocations = allocations;
+            area.trains = trains;
+            area.due = due;
+            0
+        }
+        Err(refusal) => refusal.number(),
+    }
 }
 
 // The six calls: the number of the answer.
@@ -38,84 +60,48 @@ pub extern "C" fn rbu_start(area: &mut Area, file: &[u8], place: &mut u16) -> u8
 pub extern "C" fn rbu_enter(area: &mut Area, train: u16, route: u16, speed: u16, length: u16) -> u8
     ensures { Answered area.old (Enter train (record { route = route; length = length }) speed) result area.new }
 {
-    let before = *area;
-    let change = running::enter(before, train, route, speed, length);
-    let allocations = change.allocations;
-    let trains = change.trains;
-    area.allocations = allocations;
-    area.trains = trains;
-    area.due = change.due;
-    change.number
+    let change = running::enter(area, train, route, speed, length);
+    keep(area, change)
 }
 
 #[unsafe(no_mangle)]
 pub extern "C" fn rbu_leave(area: &mut Area, train: u16) -> u8
     ensures { Answered area.old (Leave train) result area.new }
 {
-    let before = *area;
-    let change = running::leave(before, train);
-    let allocations = change.allocations;
-    let trains = change.trains;
-    area.allocations = allocations;
-    area.trains = trains;
-    area.due = change.due;
-    change.number
+    let change = running::leave(area, train);
+    keep(area, change)
 }
 
 #[unsafe(no_mangle)]
 pub extern "C" fn rbu_speed(area: &mut Area, wishes: &[u16]) -> u8
     ensures { Answered area.old (Speed wishes.now) result area.new }
 {
-    let before = *area;
-    let change = running::speed(before, wishes);
-    let allocations = change.allocations;
-    let trains = change.trains;
-    area.allocations = allocations;
-    area.trains = trains;
-    area.due = change.due;
-    change.number
+    let change = running::speed(area, wishes);
+    keep(area, change)
 }
 
 #[unsafe(no_mangle)]
 pub extern "C" fn rbu_request(area: &mut Area) -> u8
     ensures { Answered area.old Request result area.new }
 {
-    let before = *area;
-    let change = running::request(before);
-    let allocations = change.allocations;
-    let trains = change.trains;
-    area.allocations = allocations;
-    area.trains = trains;
-    area.due = change.due;
-    change.number
+    let change = running::request(area);
+    keep(area, change)
 }
 
 #[unsafe(no_mangle)]
 pub extern "C" fn rbu_grant(area: &mut Area) -> u8
     ensures { Answered area.old Grant result area.new }
 {
-    let before = *area;
-    let change = running::grant(before);
-    let allocations = change.allocations;
-    let trains = change.trains;
-    area.allocations = allocations;
-    area.trains = trains;
-    area.due = change.due;
-    change.number
+    let change = running::grant(area);
+    keep(area, change)
 }
 
 #[unsafe(no_mangle)]
 pub extern "C" fn rbu_position(area: &mut Area) -> u8
     ensures { Answered area.old Position result area.new }
 {
-    let before = *area;
-    let change = running::position(before);
-    let allocations = change.allocations;
-    let trains = change.trains;
-    area.allocations = allocations;
-    area.trains = trains;
-    area.due = change.due;
-    change.number
+    let change = running::position(area);
+    keep(area, change)
 }
 
 // The number of the answer to a report; its two numbers go to `allocated` and `free`.
@@ -123,8 +109,7 @@ pub extern "C" fn rbu_position(area: &mut Area) -> u8
 pub extern "C" fn rbu_report(area: &Area, allocated: &mut u8, free: &mut u8) -> u8
     ensures { (result ≡ number_of (reported area.now).answer) × ((allocated.new ≡ (reported area.now).allocated) × (free.new ≡ (reported area.now).free)) }
 {
-    let before = *area;
-    let told = running::report(before);
+    let told = running::report(area);
     *allocated = told.allocated;
     *free = told.free;
     told.number
@@ -135,8 +120,7 @@ pub extern "C" fn rbu_report(area: &Area, allocated: &mut u8, free: &mut u8) -> 
 pub extern "C" fn rbu_is_sound(area: &Area) -> bool
     ensures { result ≡ sound area.now }
 {
-    let before = *area;
-    before.sound()
+    area.sound()
 }
 
 // Writes the tables of the record as a file into a buffer: the number of the answer.
@@ -144,8 +128,7 @@ pub extern "C" fn rbu_is_sound(area: &Area) -> bool
 pub extern "C" fn rbu_write(area: &Area, buffer: &mut [u8]) -> u8
     ensures { Written area.now buffer.old result buffer.new }
 {
-    let before = *area;
-    writing::write(before, buffer)
+    writing::write(*area, buffer)
 }
 
 // ---- files
@@ -154,9 +137,7 @@ pub extern "C" fn rbu_write(area: &Area, buffer: &mut [u8]) -> u8
 pub extern "C" fn rbu_load(file: &[u8], place: &mut u16) -> u8
     ensures { (result ≡ number_of (loaded file.now).answer) × (place.new ≡ place_of (loaded file.now).answer) }
 {
-    let o = loading::load(file);
-    let answer = o.answer;
-    answers::tell(answer, place)
+    answers::tell(loading::load(file).answer, place)
 }
 
 // Where the view of a route starts in the file, and how many bytes it has; both 0 where it is empty.
@@ -188,11 +169,10 @@ pub extern "C" fn rbu_run_file(
     ensures separated { number_of (loaded file.now).answer ≡ 0 → Separated (decoded file.now) (file_world file.now script.now (length answers.old)) }
 {
     let ran = runs::run_file(file, script, answers);
-    let answer = ran.answer;
-    let n = answers::tell(answer, place);
+    let n = answers::tell(ran.answer, place);
     *number = n;
     if n == 0 {
-        state::write_state(ran.area, state);
+        state::write_state(&ran.area, state);
     }
     ran.calls
 }
@@ -211,9 +191,8 @@ pub extern "C" fn rbu_run_record(
     ensures state_after { state.new ≡ state_into (ran_of (record_of file.now state.old) script.now (length answers.old)).area state.old }
     ensures continues { Continues file.now state.old state.new (ran_of (record_of file.now state.old) script.now (length answers.old)).area }
 {
-    let before = state::record_of(file, state);
-    let run = runs::run(before, script, answers);
-    state::write_state(run.area, state);
+    let run = runs::run(state::record_of(file, state), script, answers);
+    state::write_state(&run.area, state);
     run.calls
 }
 
@@ -235,10 +214,7 @@ pub extern "C" fn rbu_report_record(
     ensures allocated_after { allocated.new ≡ (reported (record_of file.now state.now)).allocated }
     ensures free_after { free.new ≡ (reported (record_of file.now state.now)).free }
 {
-    let told = running::report(state::record_of(file, state));
-    *allocated = told.allocated;
-    *free = told.free;
-    told.number
+    rbu_report(&state::record_of(file, state), allocated, free)
 }
 
 #[unsafe(no_mangle)]

@@ -6,7 +6,8 @@ ghost use Rattle.std.specs.Prelude.{◌≡◌};
 ghost use Rattle.answers.specs.Answers.{number_of, place_of};
 ghost use Rattle.area.specs.Calls.{reported};
 ghost use Rattle.separation.specs.Calls.{Enter, Leave, Speed, Request, Grant, Position};
-ghost use Rattle.kept.specs.Kept.{Started, Answered, told_number, kept_after};
+ghost use Rattle.area.specs.Examined.{outcome_of};
+ghost use Rattle.kept.specs.Kept.{Started, Answered};
 
 use answers::Refusal;
 use area::{Area, Change, Outcome};
@@ -33,37 +34,37 @@ pub fn enter(
     speed: u16,
     length: u16,
 ) -> Result<Change, Refusal>
-    ensures { Answered area.now (Enter train (record { route = route; length = length }) speed) (told_number result) (kept_after area.now result) }
+    ensures { Answered area.now (Enter train (record { route = route; length = length }) speed) (number_of (outcome_of area.now result).answer) (outcome_of area.now result).area }
 {
     area.entering(train, route, speed, length)
 }
 
 pub fn leave(area: &Area, train: u16) -> Result<Change, Refusal>
-    ensures { Answered area.now (Leave train) (told_number result) (kept_after area.now result) }
+    ensures { Answered area.now (Leave train) (number_of (outcome_of area.now result).answer) (outcome_of area.now result).area }
 {
     area.leaving(train)
 }
 
 pub fn speed(area: &Area, wishes: &[u16]) -> Result<Change, Refusal>
-    ensures { Answered area.now (Speed wishes.now) (told_number result) (kept_after area.now result) }
+    ensures { Answered area.now (Speed wishes.now) (number_of (outcome_of area.now result).answer) (outcome_of area.now result).area }
 {
     area.speeding(wishes)
 }
 
 pub fn request(area: &Area) -> Result<Change, Refusal>
-    ensures { Answered area.now Request (told_number result) (kept_after area.now result) }
+    ensures { Answered area.now Request (number_of (outcome_of area.now result).answer) (outcome_of area.now result).area }
 {
     area.requesting()
 }
 
 pub fn grant(area: &Area) -> Result<Change, Refusal>
-    ensures { Answered area.now Grant (told_number result) (kept_after area.now result) }
+    ensures { Answered area.now Grant (number_of (outcome_of area.now result).answer) (outcome_of area.now result).area }
 {
     area.granting()
 }
 
 pub fn position(area: &Area) -> Result<Change, Refusal>
-    ensures { Answered area.now Position (told_number result) (kept_after area.now result) }
+    ensures { Answered area.now Position (number_of (outcome_of area.now result).answer) (outcome_of area.now result).area }
 {
     area.positioning()
 }

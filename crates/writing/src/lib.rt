@@ -4,15 +4,16 @@
 ghost use Rattle.std.specs.Prelude.{◌≡◌};
 ghost use Rattle.writing.specs.Writing.{Written, rewrite_answer, rewritten_to};
 
-use answers::Answer;
-use area::Area;
+use answers::{Answer, number_of};
+use area::{Area, Outcome};
+use loading::load;
 
-// The number of the answer.
+// The number of the answer. By value: only of a record of its own does a function know the lengths of all its lists, by which the file that
+// is written loads as the tables.
 pub fn write(area: Area, buffer: &mut [u8]) -> u8
     ensures { Written area buffer.old result buffer.new }
 {
-    let answer = area.write(buffer);
-    answers::number_of(answer)
+    number_of(area.write(buffer))
 }
 
 // Loads a file and writes it into a buffer, which is then the file. Load's answer where it refuses the file.
@@ -20,10 +21,9 @@ pub fn rewrite(file: &[u8], buffer: &mut [u8]) -> Answer
     ensures value { result ≡ rewrite_answer file.now buffer.old }
     ensures buffer_after { buffer.new ≡ rewritten_to file.now buffer.old }
 {
-    let o = loading::load(file);
-    let answer = o.answer;
-    if answers::number_of(answer) != 0 {
+    let Outcome { answer, area } = load(file);
+    if let Answer::Refused { .. } = answer {
         return answer;
     }
-    o.area.write(buffer)
+    area.write(buffer)
 }

@@ -17,4 +17,4 @@ returns c =
       flags = search rules;
       routebytes = search rules;
     } in
-    write_told c.args.area _ sized (c.number_of.ensures ∙ ap number_of c.write-answer.ensures.value) c.write-answer.ensures.buffer_after
+    write_told c.args.area _ sized (c.number_of.ensures ∙ ap number_of c.write.ensures.value) c.write.ensures.buffer_after
