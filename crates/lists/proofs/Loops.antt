@@ -200,6 +200,17 @@ module _ {A B : Type 0} where
   filled_suc f (suc i) (x ∷ l) (y ∷ old) d h =
       ap (λ (r : List B). f 1 x ∷ r) (filled_suc (λ (k : ℕ). f (suc k)) i l old d (le_of_suc-le-suc h))
 
+  -- no store at the index i, where what f makes of entry i + 1 stands already
+  filled_keep :
+      (f : ℕ → A → B) (i : ℕ) (l : List A) (old : List B) (d : A) (b : B) → i < length l → i < length old
+      → get_or old i b ≡ f (suc i) (get_or l i d) → filled f i l old ≡ filled f (suc i) l old
+  unfolding filled
+  filled_keep f i [] old d b h g e = absurd (not-suc-le-zero h)
+  filled_keep f i (x ∷ l) [] d b h g e = absurd (not-suc-le-zero g)
+  filled_keep f zero (x ∷ l) (y ∷ old) d b h g e = ap (λ (z : B). z ∷ old) e
+  filled_keep f (suc i) (x ∷ l) (y ∷ old) d b h g e =
+      ap (λ (r : List B). f 1 x ∷ r) (filled_keep (λ (k : ℕ). f (suc k)) i l old d b (le_of_suc-le-suc h) (le_of_suc-le-suc g) e)
+
   -- a store at the index i of what f makes of entry i + 1
   fill_step : (f : ℕ → A → B) (i : ℕ) (l : List A) (old new : List B) (d : A) (r : B) → new ≡ filled f i l old → i < length l → r ≡ f (i + 1) (get_or l i d) → set new i r ≡ filled f (i + 1) l old
   fill_step f i l old new d r e h p = rw (p, e, add-one) (filled_suc f i l old d h)
@@ -232,6 +243,16 @@ module _ {A B : Type 0} {n i : ℕ} {f : ℕ → A → B} {l : List A} {old new 
   make_more {r} d below e =
       let h : length l ≡ n = m.source in
       record { source = m.source; target = m.target; made = fill_step f i l old new d r m.made (omega arith) e }
+
+  pub make_keep : (d : A) (b : B) → i < n → get_or old i b ≡ f (i + 1) (get_or l i d) → Made n f l old (i + 1) new
+  make_keep d b below e =
+      let h : length l ≡ n = m.source in
+      let g : length old ≡ n = m.target in
+      record {
+        source = m.source;
+        target = m.target;
+        made = m.made ∙ rw add-one (filled_keep f i l old d b (omega arith) (omega arith) (rw add-one at e));
+      }
 
   pub make_over : n ≤ i → new ≡ each f l
   make_over h = fill_over n f i l old new m.made m.source m.target h

@@ -1,21 +1,19 @@
 -- Rule 10 as the code tests it: a route by the places after its count and by a walk along the places up to it; a record above R by
 -- its 32 bytes at one stroke.
 use Prim.Native.Nat.{ℕ, zero, suc, ◌+◌, ◌-◌, ◌*◌, ◌≤◌, ◌<◌}
-use mathlib.Core.Path.{◌≡◌, refl, sym, ap, ◌∙◌}
+use mathlib.Core.Path.{◌≡◌, refl, sym, ◌∙◌}
 use mathlib.Core.Logic.{inr}
 use mathlib.Core.List.{List, [], ◌∷◌}
 use mathlib.Core.Bool.{Bool, true, false, ◌&&◌, and-false}
 use native.Mathlib.Numerals.{add-one}
 use native.Mathlib.Omega.{arith}
 use lib.Dec.{leb, eqb}
-use lib.ListN.{length, get_or, take, drop, replicate, length-take, length-drop}
-use Rattle.std.proofs.Common.{get_or-take, get_or-drop}
+use lib.ListN.{length, get_or, replicate}
 use lib.Pointwise.{pointwise}
 use borrow.Author.Tests.{le-leb, lt-leb, eq-eqb, ne_eqb}
 use Rattle.lists.specs.Words.{every}
 use Rattle.lists.proofs.Cases.{either_yes, facts}
 use Rattle.lists.proofs.Loops.{every_none, every_first, every_more, every_fails, every_all, every_same}
-use Rattle.lists.proofs.Numbered.{nth_in}
 use Rattle.tables.specs.Bounds.{longest_route}
 use Rattle.tables.specs.Tables.{links_to, count_of, segment_at}
 use Rattle.tables.specs.Rules.{number_in, step_in, zero_in, rest_in, used_route_ok, unused_route_ok}
@@ -64,28 +62,11 @@ module _ (routebytes : List ℕ) (r : ℕ) where
   abbrev pub blank_in : ℕ → Bool
   blank_in k = zero_in routebytes r (k - 1)
 
-  blank_places : every (longest_route + 1) blank_in ≡ unused_route_ok routebytes r
+  pub blank_record : every (longest_route + 1) blank_in ≡ unused_route_ok routebytes r
   unfolding unused_route_ok
-  blank_places =
+  blank_record =
       let shift : (p : ℕ) → p + 1 - 1 ≡ p = λ p. omega arith in
       simp (every_first blank_in longest_route, count_at, shift)
-
-  pub blank_record :
-      1 ≤ r → 32 * r ≤ length routebytes
-      → pointwise eqb (take 32 (drop (32 * r - 32) routebytes)) (replicate 32 0) ≡ unused_route_ok routebytes r
-  unfolding segment_at
-  blank_record low high =
-      let part = take 32 (drop (32 * r - 32) routebytes) in
-      let long : length part ≡ 32 = simp (length-take, length-drop) (omega arith) in
-      zeros 32 part long
-      ∙ every_same 32 _ blank_in
-      (λ k from to.
-      let e : 32 * r - 31 + (k - 1) - 1 ≡ 32 * r - 32 + (k - 1) = omega arith in
-      ap (λ (n : ℕ). eqb n 0)
-      (get_or-take 32 (drop (32 * r - 32) routebytes) (k - 1) 0 (omega arith)
-      ∙ get_or-drop (32 * r - 32) routebytes (k - 1) 0
-      ∙ sym (rw e at (nth_in 0 routebytes (32 * r - 31 + (k - 1)) (omega arith)))))
-      ∙ blank_places
 
 module _ (next routebytes : List ℕ) (n r : ℕ) where
   pub bad_rest : every longest_route (rest_in routebytes r) ≡ false → false ≡ used_route_ok next routebytes n r

@@ -75,13 +75,15 @@ impl<'a> Record<'a> {
         true
     }
 
-    // The 32 bytes are compared at one stroke.
+    // No early return: the 32 bytes are compared at one stroke.
     fn unused_ok(&self) -> bool
         ensures { result ≡ unused_route_ok self.now.t.now.routebytes self.now.r }
     {
-        let first = 32 * (self.r as usize) - 32;
-        let t = self.t;
-        t.routebytes[first..first + 32] == [0; 32]
+        let mut blank = true;
+        for p in 0..=LONGEST_ROUTE {
+            blank = blank & (self.byte(p) == 0);
+        }
+        blank
     }
 
     #[tactic(auto, unfolding(tables::specs::Rules::route_in))]

@@ -1,13 +1,14 @@
 // Where a train stands.
 #![tactic(auto)]
 
-ghost use Rattle.std.specs.Prelude.{◌≡◌, eqb};
-ghost use Rattle.lists.specs.Words.{at};
+ghost use Rattle.std.specs.Prelude.{◌≡◌, ◌||◌, ltb, eqb};
+ghost use Rattle.lists.specs.Words.{at, every};
+ghost use Rattle.tables.specs.Tables.{segment_at};
 ghost use Rattle.trains.specs.Train.{own_of, next_of, wanted, rear_of};
 ghost use Rattle.trains.specs.Spot.{spot_of};
-ghost use Rattle.standing.specs.Spots.{spots_of, spot_at};
+ghost use Rattle.standing.specs.Spots.{no_spot, spots_of, spot_at};
 
-use lists::{each, entry, every};
+use lists::entry;
 use tables::Tables;
 use trains::{Spot, Train};
 
@@ -59,6 +60,18 @@ fn is_held(allocations: &[u8; 62], s: u8, n: u8) -> bool
     entry(allocations, s as usize, 0) == n
 }
 
+// Every segment of the train's route from the rear's place to its front's is allocated to train n.
+fn all_held(t: &Tables, allocations: &[u8; 62], x: Train, rear: u8, n: u8) -> bool
+    ensures { result ≡ every x.place (λ p. ltb p rear || eqb (at allocations.now (segment_at t.now.routebytes x.route p)) n) }
+{
+    for p in rear.max(1)..=x.place {
+        if !is_held(allocations, t.segment_at(x.route, p), n) {
+            return false;
+        }
+    }
+    true
+}
+
 #[tactic(auto, unfolding(trains::specs::Train::holds_all_in))]
 fn spot_of(t: &Tables, allocations: &[u8; 62], n: u8, x: Train) -> Spot
     ensures { result ≡ spot_of t.now (at allocations.now) n x }
@@ -72,10 +85,7 @@ fn spot_of(t: &Tables, allocations: &[u8; 62], n: u8, x: Train) -> Spot
         length,
         limit: t.limit(own),
         rear,
-        holdsall: every(
-            x.place,
-            |p| p < rear || is_held(allocations, t.segment_at(x.route, p), n),
-        ),
+        holdsall: all_held(t, allocations, x, rear, n),
         next,
         nextlimit: t.limit(next),
         holds: 0 < next && is_held(allocations, next, n),
@@ -83,23 +93,29 @@ fn spot_of(t: &Tables, allocations: &[u8; 62], n: u8, x: Train) -> Spot
     }
 }
 
-// Where each train stands.
+// Where a train off stands.
+fn nowhere() -> Spot
+    ensures { result ≡ no_spot }
+{
+    Spot::default()
+}
+
+// Where each train stands. Of a train off nothing is stored, since the list starts with such trains' spots.
 pub fn spots_of(t: &Tables, allocations: &[u8; 62], trains: &[Train; 24]) -> [Spot; 24]
     ensures { result ≡ spots_of t.now allocations.now trains.now }
 {
-    each(
-        trains,
-        |n, x| if x.is_on() {
-            spot_of(t, allocations, n, x)
-        } else {
-            Spot::default()
-        },
-    )
+    let mut spots = [nowhere(); 24];
+    for (i, &x) in trains.iter().enumerate() {
+        if x.is_on() {
+            spots[i] = spot_of(t, allocations, i as u8 + 1, x);
+        }
+    }
+    spots
 }
 
 // The spot of a train's number; nowhere where there is none.
 pub fn spot_at(spots: &[Spot; 24], n: u8) -> Spot
     ensures { result ≡ spot_at spots.now n }
 {
-    entry(spots, n as usize, Spot::default())
+    entry(spots, n as usize, nowhere())
 }
