@@ -6,7 +6,7 @@ ghost use Rattle.lists.specs.Words.{at, each, tabulate};
 ghost use Rattle.trains.specs.Order.{goes_before};
 ghost use Rattle.trains.specs.Grant.{asked, train_count, served, granted, was_granted, count_after, calmed};
 
-use lists::{each, entry, with_entry};
+use lists::{each, entry, set_entry};
 use tables::Tables;
 use trains::{Train, train_at};
 
@@ -43,7 +43,7 @@ fn first_askers(t: &Tables, trains: &[Train; 24]) -> [u8; 62]
         let s = asked_by(t, train_at(trains, n)) as usize;
         let u = entry(&first, s, 0);
         if u == 0 || goes_before(trains, n, u) {
-            first = with_entry(&first, s, n);
+            set_entry(&mut first, s, n);
         }
     }
     first

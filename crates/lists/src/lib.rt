@@ -15,14 +15,20 @@ pub fn entry<T: Copy>(l: &[T], n: usize, none: T) -> T
     l.get(n - 1).copied().unwrap_or(none)
 }
 
-// The array with x as entry n; the array as it is where it has no entry n.
+// Makes x entry n of a lent array, which stays as it is where it has no entry n; and the array with that entry.
+pub fn set_entry<T: Copy, const N: usize>(xs: &mut [T; N], n: usize, x: T)
+    ensures { xs.new ≡ each (λ k y. if eqb k n then x else y) xs.old }
+{
+    if 1 <= n && n <= N {
+        xs[n - 1] = x;
+    }
+}
+
 pub fn with_entry<T: Copy, const N: usize>(xs: &[T; N], n: usize, x: T) -> [T; N]
     ensures { result ≡ each (λ k y. if eqb k n then x else y) xs.now }
 {
     let mut new = *xs;
-    if 1 <= n && n <= N {
-        new[n - 1] = x;
-    }
+    set_entry(&mut new, n, x);
     new
 }
 

@@ -11,9 +11,9 @@ ghost use Rattle.standing.specs.Spots.{spot_at};
 ghost use Rattle.soundness.specs.Stopping.{Stopping};
 ghost use Rattle.soundness.specs.Covered.{covers, left_over};
 
-use lists::every;
+use lists::{every, set_entry};
 use standing::spot_at;
-use tables::{MOST_SEGMENTS, Tables};
+use tables::Tables;
 use trains::{LONGEST_TRAIN, Spot, Step, Train, train_at};
 
 #[tactic(auto, unfolding(trains::specs::Sound::place_sound))]
@@ -94,21 +94,12 @@ pub fn trains_sound(t: &Tables, due: u8, spots: &[Spot; 24], trains: &[Train; 24
 // What is under each train and its next, if that is allocated to it, is taken away from the allocations: then nothing may be left. So no
 // segment is looked for along a route.
 
-// Segment s is taken away.
-fn take(left: &mut [u8; 62], s: u8)
-    ensures { left.new ≡ each (λ n h. if eqb n s then 0 else h) left.old }
-{
-    if 1 <= s && s <= MOST_SEGMENTS {
-        left[s as usize - 1] = 0;
-    }
-}
-
 // The segments of a route from the rear's place to the front's are taken away.
 fn take_under(t: &Tables, left: &mut [u8; 62], r: u8, rear: u8, place: u8)
     ensures { left.new ≡ each (λ s h. if some place (λ p. leb rear p && eqb (segment_at t.now.routebytes r p) s) then 0 else h) left.old }
 {
     for p in rear.max(1)..=place {
-        take(left, t.segment_at(r, p));
+        set_entry(left, t.segment_at(r, p) as usize, 0);
     }
 }
 
@@ -119,7 +110,7 @@ fn take_train(t: &Tables, left: &mut [u8; 62], spot: Spot, x: Train)
     if x.is_on() {
         take_under(t, left, x.route, spot.rear, x.place);
         if spot.holds {
-            take(left, spot.next);
+            set_entry(left, spot.next as usize, 0);
         }
     }
 }

@@ -24,7 +24,7 @@ loop-n-preserved c =
             | then-u-eq0-via-then-u-eq0 v ↦ rw (eq-eqb _ _ v.if-u-eq0.true)
             | then-u-eq0-via-else-u-eq0+then-goes_before v ↦ rw (ne_eqb _ _ v.if-u-eq0.false, ← v.goes_before.ensures) v.if-goes_before.true
           ] in
-          w.first-is ∙ w.with_entry-first.ensures ∙ askers_taken _ _ _ _ _ _ c.loop-n.auto.n c.loop-n.invariant (search rules) before over
+          w.first-is ∙ w.set_entry.ensures ∙ askers_taken _ _ _ _ _ _ c.loop-n.auto.n c.loop-n.invariant (search rules) before over
       | else-u-eq0+else-goes_before w ↦
           w.first-is ∙ askers_kept _ _ _ _ _ _ c.loop-n.auto.n c.loop-n.invariant (search rules) before (rw (ne_eqb _ _ w.if-u-eq0.false, ← w.goes_before.ensures) w.if-goes_before.false)
     ])

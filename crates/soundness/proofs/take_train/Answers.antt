@@ -40,7 +40,7 @@ returns-else-is_on c = covers_none _ _ _ _ (sym c.is_on.ensures ∙ c.if-is_on.f
 
 pub returns-then-spot : goal.returns-then-spot
 returns-then-spot c =
-    covers_both _ _ _ _ (sym c.is_on.ensures ∙ c.if-is_on.true) c.if-spot.true c.take_under.ensures c.take.ensures
+    covers_both _ _ _ _ (sym c.is_on.ensures ∙ c.if-is_on.true) c.if-spot.true c.take_under.ensures c.set_entry.ensures
 
 pub returns-else-spot : goal.returns-else-spot
 returns-else-spot c = c.take_under.ensures ∙ covers_under _ _ _ _ (sym c.is_on.ensures ∙ c.if-is_on.true) c.if-spot.false

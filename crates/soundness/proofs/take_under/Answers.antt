@@ -43,9 +43,9 @@ pub loop-p-preserved : goal.loop-p-preserved
 loop-p-preserved c =
     let here : min (c.loop-p.p + 1 - 1) c.args.place ≡ c.loop-p.p = omega arith in
     rw here
-    (more _ _ _ _ c.loop-p.p (min (c.loop-p.p - 1) c.args.place) (omega arith) (omega arith) c.loop-p.invariant (rw c.segment_at.ensures at c.take.ensures))
+    (more _ _ _ _ c.loop-p.p (min (c.loop-p.p - 1) c.args.place) (omega arith) (omega arith) c.loop-p.invariant (rw c.segment_at.ensures at c.set_entry.ensures))
 
 pub returns-2 : goal.returns-2
 returns-2 c =
     let last : c.loop-p.p ≡ c.args.place = omega arith in
-    more _ _ _ _ c.args.place (min (c.loop-p.p - 1) c.args.place) (omega arith) (omega arith) c.loop-p.invariant (rw (c.segment_at.ensures, last) at c.take.ensures)
+    more _ _ _ _ c.args.place (min (c.loop-p.p - 1) c.args.place) (omega arith) (omega arith) c.loop-p.invariant (rw (c.segment_at.ensures, last) at c.set_entry.ensures)

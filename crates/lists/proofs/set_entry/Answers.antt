@@ -2,7 +2,7 @@
 use Rattle.std.proofs.Common.{sym, inl, inr}
 use Rattle.lists.proofs.Cases.{cases}
 use Rattle.lists.proofs.Numbered.{store_each, store_none}
-use Rattle.lists.proofs.with_entry.Goals as goal
+use Rattle.lists.proofs.set_entry.Goals as goal
 
 pub returns-then-n : goal.returns-then-n
 returns-then-n g c = let long = c.told-xs in store_each c.args.xs.now c.args.n c.args.x c.if-n-ge1.true (rw long c.if-n.true)
