@@ -74,4 +74,3 @@ pub either_yes : (a b : Bool) → (a ≡ true) ⊎ (b ≡ true) → (a || b) ≡
 either_yes true b w = refl
 either_yes false b (inl e) = not_both false e refl
 either_yes false b (inr e) = e
-

@@ -33,7 +33,10 @@ pub fn with_entry<T: Copy, const N: usize>(xs: &[T; N], n: usize, x: T) -> [T; N
 }
 
 // What f makes of each entry and its number.
-pub fn each<T: Copy, U: Copy + Default, const N: usize, F: Fn(u8, T) -> U>(xs: &[T; N], f: F) -> [U; N]
+pub fn each<T: Copy, U: Copy + Default, const N: usize, F: Fn(u8, T) -> U>(
+    xs: &[T; N],
+    f: F,
+) -> [U; N]
     requires few { N < 256 }
     requires callable { (i : ℕ) (d : T) → i < N → F.pre f (i + 1) (get_or xs.now i d) }
     ensures { (g : ℕ → T → U) → ((n : ℕ) (x : T) (y : U) → F.post f n x y → y ≡ g n x) → result ≡ each g xs.now }

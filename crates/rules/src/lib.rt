@@ -47,7 +47,11 @@ fn drop_ok(t: &Tables, s: u8) -> bool
     ensures { result ≡ drop_ok t.now s }
 {
     let limit = u32::from(t.limit(s));
-    links_pass(&t.next, s, |link| limit <= u32::from(t.limit(link)) + u32::from(t.braking))
+    links_pass(
+        &t.next,
+        s,
+        |link| limit <= u32::from(t.limit(link)) + u32::from(t.braking),
+    )
 }
 
 // ---- rules 7 to 9 of all segments: the first that breaks one

@@ -142,6 +142,10 @@ impl Tables {
     pub fn segment_at(&self, r: u8, p: u8) -> u8
         ensures { result ≡ segment_at self.now.routebytes r p }
     {
-        entry(&self.routebytes, (32 * r as usize).saturating_sub(31) + p as usize, 0)
+        entry(
+            &self.routebytes,
+            (32 * r as usize).saturating_sub(31) + p as usize,
+            0,
+        )
     }
 }

@@ -21,7 +21,7 @@ pub loop-k-init : goal.loop-k-init
 loop-k-init g c = λ p e. scan_begin
 
 pub returns-then-not-ok : goal.returns-then-not-ok
-returns-then-not-ok g c = λ p e. 
+returns-then-not-ok g c = λ p e.
     let one : c.loop-k.k - 1 + 1 ≡ c.loop-k.k = omega arith in
     some_found _ _ c.loop-k.auto.k (rw one at (scan_found (c.loop-k.invariant p e) (omega arith) (rw one (e _ _ c.ok.ensures)) (ap not c.if-not-ok.true)))
 
@@ -32,6 +32,7 @@ loop-k-preserved g c = λ p e.
 
 pub returns : goal.returns
 returns g c = λ p e.
-  elim c.loop-k-test.branch [
-  | else-loop-k-test w ↦ none_found _ (scan_over (c.loop-k.invariant p e) (omega arith))
-  | then-loop-k-test+else-not-ok+else-k-n w ↦ none_found _ (scan_over (scanned_on (c.loop-k.invariant p e) c.loop-k.auto.k w.loop-k-test.true (e _ _ w.ok.ensures) w.if-not-ok.false) (omega arith)) ]
+    elim c.loop-k-test.branch [
+      | else-loop-k-test w ↦ none_found _ (scan_over (c.loop-k.invariant p e) (omega arith))
+      | then-loop-k-test+else-not-ok+else-k-n w ↦ none_found _ (scan_over (scanned_on (c.loop-k.invariant p e) c.loop-k.auto.k w.loop-k-test.true (e _ _ w.ok.ensures) w.if-not-ok.false) (omega arith))
+    ]
