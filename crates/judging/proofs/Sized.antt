@@ -7,7 +7,8 @@ use Rattle.tables.specs.Bounds.{bounds}
 use Rattle.tables.specs.declared.Tables.{Tables}
 use Rattle.decoding.specs.Decoding.{decoded}
 use Rattle.reading.specs.declared.Fault.{Fault}
-use Rattle.reading.specs.Verdict.{at_block, table_tests, verdict, told_fault, read_as, reading_by, reading_of}
+use Rattle.reading.specs.Verdict.{at_block, table_tests, verdict, reading_by, reading_of}
+use Rattle.reading.specs.Results.{told_fault, read_as}
 
 read_told : (r : Result Tables Fault) (t : Test) (T : Tables) → told_fault r ≡ t → IfOk r (λ x. x ≡ T) → read_as r ≡ reading_by t T
 read_told (Ok x) t T e h = rw (sym e, h)

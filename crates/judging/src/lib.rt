@@ -8,7 +8,8 @@ ghost use Rattle.answers.specs.Refusals.{refusal_number};
 ghost use Rattle.file.specs.Blocks.{first_damaged, first_misfiled};
 ghost use Rattle.tables.specs.Bounds.{most_segments, bounds};
 ghost use Rattle.decoding.specs.Decoding.{decoded};
-ghost use Rattle.reading.specs.Verdict.{header_filed, reserved, record_ok, at_block, at_number, table_tests, told_fault, read_as, reading_of};
+ghost use Rattle.reading.specs.Verdict.{header_filed, reserved, record_ok, at_block, at_number, table_tests, reading_of};
+ghost use Rattle.reading.specs.Results.{told_fault, read_as};
 
 use answers::Refusal;
 use blocks::{block_of, first_damaged, first_misfiled};

@@ -8,7 +8,8 @@ use Rattle.answers.specs.Refusals.{refusal_number}
 use Rattle.tables.specs.declared.Tables.{Tables}
 use Rattle.decoding.specs.Decoding.{decoded}
 use Rattle.reading.specs.declared.Fault.{Fault}
-use Rattle.reading.specs.Verdict.{Reading, refused_reading, accepted_reading, verdict, accepted, read_as, reading_of}
+use Rattle.reading.specs.Verdict.{Reading, refused_reading, accepted_reading, verdict, accepted, reading_of}
+use Rattle.reading.specs.Results.{read_as}
 use Rattle.reading.proofs.Accepted.{number_zero}
 
 pub read_means :

@@ -1,3 +1,4 @@
 pub mod Reading
 pub mod Verdict
 pub mod Acceptance
+pub mod Results

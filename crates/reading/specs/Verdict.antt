@@ -1,5 +1,5 @@
 -- What load says of a file (document 01, "Refusals" 1 to 10): rules 1 to 10 in that order, each over the whole file.
-use Rattle.std.specs.Prelude.{ℕ, ◌+◌, ◌-◌, Bool, true, false, not, ◌&&◌, List, [], ◌∷◌, length, ltb, eqb, if◌then◌else◌, Result, Ok, Err}
+use Rattle.std.specs.Prelude.{ℕ, ◌+◌, ◌-◌, Bool, not, ◌&&◌, List, [], ◌∷◌, length, ltb, eqb, if◌then◌else◌}
 use Rattle.lists.specs.Words.{first_failing}
 use Rattle.lists.specs.Tests.{Test, ◌⇒◌, ◌⇒◌place◌, first_of}
 use Rattle.file.specs.Bytes.{byte_at, zeros}
@@ -10,8 +10,6 @@ use Rattle.tables.specs.Bounds.{most_segments, most_routes, Bounds, bounds}
 use Rattle.tables.specs.Tables.{blank_tables}
 use Rattle.tables.specs.Rules.{header_ok, margin_ok, segment_ok, joint_ok, order_ok, drop_ok, route_ok}
 use Rattle.decoding.specs.Decoding.{segment_block, decoded}
-use Rattle.answers.specs.Refusals.{refusal_number}
-use Rattle.reading.specs.declared.Fault.{Fault}
 pub use Rattle.reading.specs.Reading.{Reading}
 
 -- rule 4 of what the tables do not keep: the version, the zero after the routes, the zeros up to the tail
@@ -85,13 +83,3 @@ reading_by t T = if t.holds then refused_reading t.number t.place else accepted_
 
 unfoldable pub reading_of : List ℕ → Reading
 reading_of file = reading_by (verdict file) (decoded file)
-
--- the reading that a result tells
-abbrev pub read_as : Result Tables Fault → Reading
-read_as (Ok T) = accepted_reading T
-read_as (Err f) = refused_reading (refusal_number f.refusal) f.place
-
--- a step that may find a fault, as the first of its tests that holds: the refusal's number and place; where it finds none, none holds
-abbrev pub told_fault : {A : Type 0} → Result A Fault → Test
-told_fault (Ok x) = record { holds = false; number = 0; place = 0 }
-told_fault (Err f) = record { holds = true; number = refusal_number f.refusal; place = f.place }

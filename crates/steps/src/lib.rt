@@ -5,7 +5,7 @@ ghost use Rattle.std.specs.Prelude.{◌≡◌, eqb, length, if◌then◌else◌}
 ghost use Rattle.lists.specs.Words.{at};
 ghost use Rattle.lists.specs.Tests.{first_of};
 ghost use Rattle.answers.specs.Refusals.{told};
-ghost use Rattle.trains.specs.Due.{step_number};
+ghost use Rattle.trains.specs.Steps.{step_number};
 ghost use Rattle.trains.specs.Cycle.{due_tests, wish_tests, upper_end, new_speed, sped_at, requested_at, moved_in};
 ghost use Rattle.steps.specs.Room.{Room};
 ghost use Rattle.steps.specs.Left.{left_of};

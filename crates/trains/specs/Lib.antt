@@ -1,4 +1,5 @@
 pub mod Due
+pub mod Steps
 pub mod Train
 pub mod Spot
 pub mod Cycle

@@ -21,7 +21,8 @@ use Rattle.decoding.specs.Decoding.{route_byte_in, decoded}
 use Rattle.std.specs.Prelude.{Result, Ok, Err, MatchResult}
 use Rattle.tables.specs.declared.Tables.{Tables}
 use Rattle.reading.specs.declared.Fault.{Fault}
-use Rattle.reading.specs.Verdict.{accepted, read_as, reading_of}
+use Rattle.reading.specs.Verdict.{accepted, reading_of}
+use Rattle.reading.specs.Results.{read_as}
 use Rattle.view.specs.View.{start_in_file, shown, view_start, view_count, viewed}
 use Rattle.reading.proofs.Accepted.{accepted_iff, file_consistent}
 use Rattle.reading.proofs.Results.{read_means}
