@@ -1,7 +1,7 @@
 use Prim.Native.Nat.{ℕ, ◌+◌}
 use mathlib.Core.Path.{◌≡◌, sym, ◌∙◌}
 use lib.ListN.{get_or, replicate, length-replicate}
-use Rattle.lists.proofs.Numbered.{long_of, nth_index, nth_replicate}
+use Rattle.lists.proofs.Numbered.{nth_index, nth_replicate}
 use Rattle.lists.proofs.Loops.{make_begin, make_more, make_keep, make_over}
 use Rattle.trains.specs.Train.{off}
 use Rattle.standing.specs.Spots.{no_spot}
