@@ -26,6 +26,7 @@ pub fn braking_distance(speed: u16, braking: u16) -> u32
 }
 
 // S(speed) at a rate of braking; 0 at a rate of 0.
+#[tactic(auto, unfolding(crate::specs::Distance::distance_at))]
 pub fn distance_at(rate: u16, speed: u16) -> u32
     ensures { result ≡ distance_at rate speed }
 {

@@ -1,27 +1,28 @@
 // Rules 4 to 6 of the tables: of the header's numbers and of one segment record.
 #![tactic(auto)]
 
-ghost use Rattle.std.specs.Prelude.{◌≡◌, ◌≤◌};
+ghost use Rattle.std.specs.Prelude.{◌≡◌, ◌≤◌, ◌&&◌, leb};
 ghost use Rattle.tables.specs.Bounds.{bounds};
 ghost use Rattle.tables.specs.Rules.{header_ok, margin_ok, links_ok, used_ok, segment_ok};
 
 use tables::{FASTEST, LONGEST, MOST_ROUTES, MOST_SEGMENTS, Segment, Tables};
 
 // ---- rules 4 and 5
+fn is_within(n: u32, most: u32) -> bool
+    ensures { result ≡ (leb 1 n && leb n most) }
+{
+    (1..=most).contains(&n)
+}
+
 #[tactic(auto, unfolding(tables::specs::Rules::header_in))]
 pub fn header_ok(t: &Tables) -> bool
     ensures { result ≡ header_ok bounds t.now }
 {
-    (1 <= t.segments)
-        & (t.segments <= MOST_SEGMENTS)
-        & (1 <= t.routes)
-        & (t.routes <= MOST_ROUTES)
-        & (1 <= t.gmax)
-        & (t.gmax <= FASTEST)
-        & (1 <= t.braking)
-        & (t.braking <= t.gmax)
-        & (1 <= t.margin)
-        & (t.margin <= LONGEST)
+    is_within(u32::from(t.segments), u32::from(MOST_SEGMENTS))
+        && is_within(u32::from(t.routes), u32::from(MOST_ROUTES))
+        && is_within(u32::from(t.gmax), u32::from(FASTEST))
+        && is_within(u32::from(t.braking), u32::from(t.gmax))
+        && is_within(t.margin, LONGEST)
 }
 
 pub fn margin_ok(t: &Tables) -> bool
