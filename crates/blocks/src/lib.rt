@@ -37,8 +37,7 @@ fn is_intact(block: &[u8]) -> bool
     requires { length block.now ≡ block_size }
     ensures { result ≡ intact block.now }
 {
-    let check = check_of(block);
-    check[0] == byte(block, 510) && check[1] == byte(block, 511)
+    check_of(block) == [byte(block, 510), byte(block, 511)]
 }
 
 // 1 header, 2 and 2 segments, 3 and 3 routes.

@@ -71,8 +71,7 @@ fn put_block(buffer: &mut [u8], number: u8, held: &[u8])
     block[496] = kind_of(number);
     block[497] = number;
     let check = check_of(&block);
-    block[510] = check[0];
-    block[511] = check[1];
+    block[510..].copy_from_slice(&check);
     put(buffer, 512 * number as u16, &block);
 }
 
