@@ -70,8 +70,7 @@ fn put_block(buffer: &mut [u8], number: u8, held: &[u8])
     put(&mut block, 0, held);
     block[496] = kind_of(number);
     block[497] = number;
-    let check = check_of(&block);
-    block[510..].copy_from_slice(&check);
+    [block[510], block[511]] = check_of(&block);
     put(buffer, 512 * number as u16, &block);
 }
 

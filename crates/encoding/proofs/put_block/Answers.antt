@@ -7,4 +7,4 @@ use Rattle.encoding.proofs.put_block.Goals as goal
 pub returns : goal.returns
 returns c =
     c.put-2.ensures
-    ∙ rw (sealed c.args.number _ (search rules) 512 refl _ c.put.ensures _ c.kind_of.ensures _ c.check_of-check.ensures)
+    ∙ rw (sealed c.args.number _ (search rules) 512 refl _ c.put.ensures _ c.kind_of.ensures _ c.check_of.ensures)
