@@ -124,8 +124,8 @@ pub fn allocations_sound(
     ensures { result ≡ every most_segments (λ s. eqb (left_over t.now.routebytes spots.now trains.now most_trains s (at allocations.now s)) 0) }
 {
     let mut left = *allocations;
-    for i in 0..24 {
-        take_train(t, &mut left, spots[i], trains[i]);
+    for (&spot, &x) in spots.iter().zip(trains) {
+        take_train(t, &mut left, spot, x);
     }
     left == [0; 62]
 }

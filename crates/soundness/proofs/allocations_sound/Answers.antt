@@ -6,8 +6,10 @@ use mathlib.Core.List.{List, [], ◌∷◌}
 use native.Mathlib.Omega.{arith}
 use native.Mathlib.Numerals.{add-one}
 use lib.Dec.{eqb}
-use lib.ListN.{length, replicate}
+use borrow.Author.Rules.{rules}
+use lib.ListN.{length, replicate, length-append}
 use lib.Pointwise.{pointwise}
+use Rattle.std.proofs.lemmas.Slice.Zip.{zip_turn, zip_end}
 use Rattle.lists.specs.Words.{nth, at, every}
 use Rattle.lists.proofs.Loops.{every_none, every_first, every_same}
 use Rattle.lists.proofs.Numbered.{nth_index, nth_each_in, length_each}
@@ -59,17 +61,21 @@ over :
 over routebytes A left spots trains s long low high e =
     ap (λ (h : ℕ). eqb h 0) (ap (λ (l : List ℕ). at l s) e ∙ nth_each_in 0 0 _ A s low (omega arith))
 
-pub loop-i-init : goal.loop-i-init
-loop-i-init c = sym (without_none _ _ (λ s. none_some _ 0 (λ k low high. absurd (omega arith))))
+pub loop-spot-init : goal.loop-spot-init
+loop-spot-init c = sym (without_none _ _ (λ s. none_some _ 0 (λ k low high. absurd (omega arith))))
 
-pub loop-i-preserved : goal.loop-i-preserved
-loop-i-preserved c =
-    more _ c.args.spots.now c.args.trains.now c.loop-i.i _ _ _ _ _ (nth_index no_spot _ _) (nth_index off _ _) c.loop-i.invariant c.take_train.ensures
+pub loop-spot-preserved : goal.loop-spot-preserved
+loop-spot-preserved c =
+    let n = length c.loop-spot.yielded in
+    let turn = zip_turn c.args.spots.now c.args.trains.now _ _ _ c.next.new.self _ (search rules) (search rules) c.loop-spot.yielded_by _ c.in-Some.is c.next.ensures.steps in
+    rw length-append
+    (more _ c.args.spots.now c.args.trains.now n _ _ _ _ _ (nth_index no_spot _ _ ∙ sym (turn.2 no_spot)) (nth_index off _ _ ∙ sym (turn.3 off)) c.loop-spot.invariant c.take_train.ensures)
 
 pub returns : goal.returns
 returns c =
-    let e : c.loop-i.i ≡ most_trains = omega arith in
-    let long : length c.loop-i.left ≡ 62 = ap length c.loop-i.invariant ∙ (length_each _ _ ∙ c.told-allocations) in
+    let turns = zip_end c.args.spots.now c.args.trains.now _ _ _ c.next.new.self _ (search rules) (search rules) c.loop-spot.yielded_by c.in-None.is c.next.ensures.steps in
+    let all : length c.loop-spot.yielded ≡ most_trains = omega (arith, turns, c.told-spots, c.told-trains) in
+    let long : length c.loop-spot.left ≡ 62 = ap length c.loop-spot.invariant ∙ (length_each _ _ ∙ c.told-allocations) in
     c.eq.ensures
-    ∙ (all_zero 62 c.loop-i.left long
-    ∙ every_same most_segments _ _ (λ s low high. over _ _ _ _ _ s c.told-allocations low high (rw e at c.loop-i.invariant)))
+    ∙ (all_zero 62 c.loop-spot.left long
+    ∙ every_same most_segments _ _ (λ s low high. over _ _ _ _ _ s c.told-allocations low high (rw all at c.loop-spot.invariant)))

@@ -3,6 +3,7 @@ use Prim.Native.Nat.{ℕ}
 use mathlib.Core.Path.{◌≡◌}
 use mathlib.Core.Bool.{Bool}
 use mathlib.Core.List.{List}
+use lib.ListN.{length}
 use Rattle.lists.specs.Words.{some}
 use Rattle.trains.specs.declared.Train.{Train}
 use Rattle.trains.specs.declared.Spot.{Spot}
@@ -16,5 +17,5 @@ use Rattle.soundness.proofs.allocations_sound.Given as goal
 abbrev pub covered : (routebytes : List ℕ) → List Spot → List Train → (n s : ℕ) → Bool
 covered routebytes spots trains n s = some n (λ (t : ℕ). covers routebytes (spot_at spots t) (train_at trains t) s)
 
-abbrev pub invariant-loop-i : goal.invariant-loop-i
-invariant-loop-i l = l.left ≡ without (covered l.t.routebytes l.spots l.trains l.i) l.initial.left
+abbrev pub invariant-loop-spot : goal.invariant-loop-spot
+invariant-loop-spot l = l.left ≡ without (covered l.t.routebytes l.spots l.trains (length l.yielded)) l.initial.left
