@@ -74,11 +74,10 @@ fn run_file(rt: &impl Print, file: &[u8]) -> io::Result<()> {
 
 fn run_named<R: Env + Files + Input + Print + Eprint>(rt: &R) -> io::Result<()> {
     let mut buffer = [0u8; named_file::ROOM];
-    let input = named_file::read(rt, &mut buffer);
-    if input.failed.is_some() {
-        return named_file::say_unread(rt);
+    match named_file::read(rt, &mut buffer) {
+        Ok(count) => run_file(rt, &buffer[..count]),
+        Err(_) => named_file::say_unread(rt),
     }
-    run_file(rt, &buffer[..input.count])
 }
 
 // Where the output cannot be written nothing more is printed, and the program says so and ends.

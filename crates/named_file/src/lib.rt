@@ -1,10 +1,9 @@
 // The area file that a program is to run: the one that its argument names, or standard input where it has no argument.
 #![tactic(auto)]
 
-ghost use Rattle.std.specs.Prelude.{◌≡◌, ◌≤◌, length, take};
+ghost use Rattle.std.specs.Prelude.{◌≡◌, ◌≤◌, length, take, IfOk};
 
 use arrayvec::ArrayString;
-use console::Input;
 use std::env::{Env, FillError};
 use std::fmt::Write;
 use std::fs;
@@ -14,16 +13,6 @@ use std::rt::Files;
 // Room for a file and one byte more, so that a longer one is seen to be longer.
 pub const ROOM: usize = 2561;
 
-// Nothing was read, and why.
-fn unread(reason: io::Error) -> Input
-    ensures { result.count ≡ 0 }
-{
-    Input {
-        count: 0,
-        failed: Some(reason),
-    }
-}
-
 // The system's words for an error: std puts its number after them, as in `No such file or directory (os error 2)`.
 fn words_of(text: &str) -> &str {
     text.split_once(" (os error ")
@@ -31,7 +20,7 @@ fn words_of(text: &str) -> &str {
 }
 
 // Says why what has this name could not be read.
-fn fail(rt: &impl Eprint, name: &str, reason: io::Error) {
+fn fail(rt: &impl Eprint, name: &str, reason: &io::Error) {
     let mut text = ArrayString::<256>::new();
     let _ = write!(text, "{reason}");
     let words = words_of(text.as_str());
@@ -39,28 +28,31 @@ fn fail(rt: &impl Eprint, name: &str, reason: io::Error) {
 }
 
 // Reads what has been opened, and says why where that fails.
-fn read_opened<F: Read>(rt: &impl Eprint, file: &mut F, name: &str, buffer: &mut [u8]) -> Input
-    ensures in_bounds { result.count ≤ length buffer.new }
-    ensures counts { result.count ≡ length (take result.count buffer.new) }
+fn read_opened<F: Read>(
+    rt: &impl Eprint,
+    file: &mut F,
+    name: &str,
+    buffer: &mut [u8],
+) -> io::Result<usize>
+    ensures in_bounds { IfOk result (λ n. n ≤ length buffer.new) }
+    ensures counts { IfOk result (λ n. n ≡ length (take n buffer.new)) }
 {
     let input = console::read_input(file, buffer);
-    if let Some(reason) = input.failed {
-        fail(rt, name, reason);
-    }
-    input
-}
-
-fn read_named<R: Files + Eprint>(rt: &R, name: &str, buffer: &mut [u8]) -> Input
-    ensures in_bounds { result.count ≤ length buffer.new }
-    ensures counts { result.count ≡ length (take result.count buffer.new) }
-{
-    match fs::open(rt, name) {
-        Ok(mut file) => read_opened(rt, &mut file, name, buffer),
-        Err(reason) => {
-            fail(rt, name, reason);
-            unread(reason)
+    match input.failed {
+        None => Ok(input.count),
+        Some(reason) => {
+            fail(rt, name, &reason);
+            Err(reason)
         }
     }
+}
+
+fn read_named<R: Files + Eprint>(rt: &R, name: &str, buffer: &mut [u8]) -> io::Result<usize>
+    ensures in_bounds { IfOk result (λ n. n ≤ length buffer.new) }
+    ensures counts { IfOk result (λ n. n ≡ length (take n buffer.new)) }
+{
+    let mut file = fs::open(rt, name).inspect_err(|reason| fail(rt, name, reason))?;
+    read_opened(rt, &mut file, name, buffer)
 }
 
 // The program's argument. A path is text for std, so that a name that is not cannot be opened.
@@ -75,18 +67,13 @@ fn argument<'a>(rt: &impl Env, name: &'a mut [u8]) -> io::Result<&'a str> {
     ))
 }
 
-fn read_argument<R: Env + Files + Eprint>(rt: &R, buffer: &mut [u8]) -> Input
-    ensures in_bounds { result.count ≤ length buffer.new }
-    ensures counts { result.count ≡ length (take result.count buffer.new) }
+fn read_argument<R: Env + Files + Eprint>(rt: &R, buffer: &mut [u8]) -> io::Result<usize>
+    ensures in_bounds { IfOk result (λ n. n ≤ length buffer.new) }
+    ensures counts { IfOk result (λ n. n ≡ length (take n buffer.new)) }
 {
     let mut name = [0u8; 4096];
-    match argument(rt, &mut name) {
-        Ok(name) => read_named(rt, name, buffer),
-        Err(reason) => {
-            fail(rt, "the file's name", reason);
-            unread(reason)
-        }
-    }
+    let name = argument(rt, &mut name).inspect_err(|reason| fail(rt, "the file's name", reason))?;
+    read_named(rt, name, buffer)
 }
 
 fn has_argument(rt: &impl Env, i: usize) -> bool {
@@ -94,9 +81,9 @@ fn has_argument(rt: &impl Env, i: usize) -> bool {
 }
 
 // Reads the file to its end or until the buffer is full. Where it cannot be read, standard error has the reason.
-pub fn read<R: Env + Files + io::Input + Eprint>(rt: &R, buffer: &mut [u8]) -> Input
-    ensures in_bounds { result.count ≤ length buffer.new }
-    ensures counts { result.count ≡ length (take result.count buffer.new) }
+pub fn read<R: Env + Files + io::Input + Eprint>(rt: &R, buffer: &mut [u8]) -> io::Result<usize>
+    ensures in_bounds { IfOk result (λ n. n ≤ length buffer.new) }
+    ensures counts { IfOk result (λ n. n ≡ length (take n buffer.new)) }
 {
     if !has_argument(rt, 1) {
         return read_opened(rt, &mut rt.reader(), "standard input", buffer);
@@ -107,7 +94,7 @@ pub fn read<R: Env + Files + io::Input + Eprint>(rt: &R, buffer: &mut [u8]) -> I
             "name one file, or none to read standard input",
         );
         let _ = eprintln!(rt; "{reason}");
-        return unread(reason);
+        return Err(reason);
     }
     read_argument(rt, buffer)
 }
