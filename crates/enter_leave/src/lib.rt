@@ -13,6 +13,19 @@ use lists::{each, entry};
 use tables::Tables;
 use trains::Train;
 
+// The two flags of a segment.
+fn is_entry(t: &Tables, s: u8) -> bool
+    ensures { result ≡ is_entry t.now s }
+{
+    t.flags_of(s) % 2 == 1
+}
+
+fn is_exit(t: &Tables, s: u8) -> bool
+    ensures { result ≡ is_exit t.now s }
+{
+    t.flags_of(s) / 2 == 1
+}
+
 // The tests of a route's first segment.
 pub fn check_first_segment(
     t: &Tables,
@@ -22,7 +35,7 @@ pub fn check_first_segment(
 ) -> Result<(), Refusal>
     ensures { told result ≡ first_of (not (is_entry t.now first) ⇒ 17 ∷ ltb 0 (at allocations.now first) ⇒ 18 ∷ ltb (at t.now.limits first) speed ⇒ 19 ∷ []) }
 {
-    if t.flags_of(first) % 2 != 1 {
+    if !is_entry(t, first) {
         return Err(Refusal::NoEntry);
     }
     if 0 < entry(allocations, first as usize, 0) {
@@ -38,7 +51,7 @@ pub fn check_first_segment(
 pub fn at_exit(t: &Tables, x: Train) -> bool
     ensures { result ≡ (is_last t.now x && is_exit t.now (own_of t.now x)) }
 {
-    x.place == t.count(x.route) && t.flags_of(standing::own_of(t, x)) / 2 == 1
+    x.place == t.count(x.route) && is_exit(t, standing::own_of(t, x))
 }
 
 // All that is allocated to train n is freed.
