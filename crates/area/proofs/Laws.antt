@@ -3,8 +3,9 @@
 use mathlib.Core.Path.{◌≡◌, refl, sym, ap}
 use mathlib.Core.Bool.{Bool, true, false, not}
 use mathlib.Core.List.{List, ◌∷◌}
-use Rattle.std.specs.Prelude.{Result, Ok, Err, if◌then◌else◌}
+use Rattle.std.specs.Prelude.{Result, Ok, Err, IsErrAnd, if◌then◌else◌}
 use Rattle.std.specs.Result.{is_ok}
+use Rattle.std.proofs.lemmas.Result.{err_from_is_err_and}
 use Rattle.lists.specs.Tests.{Test, ◌⇒◌, first_of}
 use Rattle.lists.proofs.Cases.{not_both}
 use Rattle.trains.specs.declared.Spot.{Spot}
@@ -47,15 +48,19 @@ module _ (rest : List Test) (new old : Area) where
   abbrev calls : List Test
   calls = not (sound old) ⇒ 11 ∷ rest
 
-  pub unsound_by : {r : Refusal} → Err r ≡ examined old → outcome_of old (Err r) ≡ outcome calls new old
-  unsound_by {r} e =
+  -- `?` gives the refusal back as it is
+  pub unsound_by : (q : Result Change Refusal) {r : Refusal} → IsErrAnd q (λ y. y ≡ r) → Err r ≡ examined old → outcome_of old q ≡ outcome calls new old
+  unsound_by q gives e =
       let f = found_unsound old e in
-      rw (f.0, f.1) (rw (refused_answer Unsound 0) refl)
+      let p = err_from_is_err_and q gives in
+      rw (p.1, p.2, f.0, f.1) (rw (refused_answer Unsound 0) refl)
 
   pub refused_by :
-      (r : Refusal) → sound old ≡ true → ◌≡◌ {A = Test} (record { holds = true; number = refusal_number r; place = 0 }) (first_of rest)
-      → outcome_of old (Err r) ≡ outcome calls new old
-  refused_by r s first = rw (s, ← first, refused_answer r 0) refl
+      (q : Result Change Refusal) (r : Refusal) → IsErrAnd q (λ y. y ≡ r) → sound old ≡ true
+      → ◌≡◌ {A = Test} (record { holds = true; number = refusal_number r; place = 0 }) (first_of rest) → outcome_of old q ≡ outcome calls new old
+  refused_by q r gives s first =
+      let p = err_from_is_err_and q gives in
+      rw (p.1, p.2, s, ← first, refused_answer r 0) refl
 
   pub finished_by :
       {c : Change} → sound old ≡ true → ◌≡◌ {A = Test} (record { holds = false; number = 0; place = 0 }) (first_of rest) → changed old c ≡ new

@@ -117,7 +117,7 @@ impl Area {
         ensures { outcome_of self.now result ≡ speed_call self.now wishes.now }
     {
         let spots = self.examine()?;
-        steps::check_wishes(self.due, wishes)?;
+        steps::check_wishes(self.due, wishes.len())?;
         Ok(Change {
             allocations: self.allocations,
             trains: cycle::sped_all(self.tables.braking, wishes, &spots, &self.trains),
@@ -129,7 +129,7 @@ impl Area {
         ensures { outcome_of self.now result ≡ request_call self.now }
     {
         let spots = self.examine()?;
-        steps::check_due(self.due, Step::Request)?;
+        steps::check_due(self.due, Step::Request as u8)?;
         Ok(Change {
             allocations: self.allocations,
             trains: cycle::requested_all(&spots, &self.trains),
@@ -141,7 +141,7 @@ impl Area {
         ensures { outcome_of self.now result ≡ grant_call self.now }
     {
         self.examine()?;
-        steps::check_due(self.due, Step::Grant)?;
+        steps::check_due(self.due, Step::Grant as u8)?;
         let allocations = grant::granted_all(&self.tables, &self.trains, &self.allocations);
         Ok(Change {
             allocations,
@@ -154,7 +154,7 @@ impl Area {
         ensures { outcome_of self.now result ≡ position_call self.now }
     {
         let spots = self.examine()?;
-        steps::check_due(self.due, Step::Position)?;
+        steps::check_due(self.due, Step::Position as u8)?;
         let trains = cycle::moved_all(&spots, &self.trains);
         Ok(Change {
             allocations: cycle::released_all(&self.tables, &spots, &trains, &self.allocations),

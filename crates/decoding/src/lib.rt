@@ -22,10 +22,10 @@ pub fn segment_block(file: &File, s: u16) -> &[u8]
 }
 
 // Where segment record s starts in its block.
-pub fn segment_start(s: u16) -> u16
+pub fn segment_start(s: usize) -> u16
     ensures { result ≡ segment_start s }
 {
-    16 * (s.saturating_sub(1) % 31)
+    16 * (s.saturating_sub(1) % 31) as u16
 }
 
 // The links that stand at a place of each record, two a record: 6 for next, 8 for previous.
@@ -35,7 +35,7 @@ fn links_of(file: &File, place: u8) -> [u8; 124]
 {
     tabulate(|k| {
         let s = (k + 1) / 2;
-        let at = segment_start(s) + place as u16 + (k - 1) % 2;
+        let at = segment_start(s as usize) + place as u16 + (k - 1) % 2;
         byte(segment_block(file, s), at as usize)
     })
 }
@@ -50,11 +50,14 @@ pub fn decode(file: &File) -> Tables
         gmax: two_at(header, 4),
         braking: two_at(header, 6),
         margin: four_at(header, 8),
-        lengths: tabulate(|s| four_at(segment_block(file, s), segment_start(s))),
-        limits: tabulate(|s| two_at(segment_block(file, s), segment_start(s) as u32 + 4)),
+        lengths: tabulate(|s| four_at(segment_block(file, s), segment_start(s as usize))),
+        limits: tabulate(|s| two_at(segment_block(file, s), segment_start(s as usize) as u32 + 4)),
         next: links_of(file, 6),
         previous: links_of(file, 8),
-        flags: tabulate(|s| byte(segment_block(file, s), segment_start(s) as usize + 10)),
+        flags: tabulate(|s| byte(
+            segment_block(file, s),
+            segment_start(s as usize) as usize + 10,
+        )),
         routebytes: tabulate(|k| {
             let i = k as usize - 1;
             byte(block_of(file, 3 + i / 480), i % 480)

@@ -35,7 +35,7 @@ fn to_run(braking: u16, due: u8, speed: u16) -> u32
     ensures { result ≡ to_run (distance_in braking) due speed }
 {
     let distance = braking::braking_distance(speed, braking);
-    if due == Step::Speed.number() {
+    if due == Step::Speed as u8 {
         distance - u32::from(speed)
     } else {
         distance
@@ -51,7 +51,7 @@ fn braking_sound(t: &Tables, due: u8, spot: Spot, x: Train) -> bool
     let position = u64::from(x.position);
     let length = u64::from(spot.length);
     if spot.holds {
-        due == Step::Speed.number()
+        due == Step::Speed as u8
             || position + u64::from(x.speed) < length
             || x.speed <= spot.nextlimit
     } else {
@@ -64,7 +64,7 @@ fn braking_sound(t: &Tables, due: u8, spot: Spot, x: Train) -> bool
 fn asking_sound(due: u8, spot: Spot, x: Train) -> bool
     ensures { result ≡ asking_sound due spot x }
 {
-    x.asks == u8::from(due == Step::Grant.number() && spot.wants_next())
+    x.asks == u8::from(due == Step::Grant as u8 && spot.wants_next())
 }
 
 // Of a train whose place is sound, S(limit) ≤ `d`.

@@ -1,11 +1,10 @@
 // What one train, and the allocation of one segment, becomes at speed, request and position; the tests of a step.
 #![tactic(auto)]
 
-ghost use Rattle.std.specs.Prelude.{◌≡◌, eqb, length, if◌then◌else◌};
+ghost use Rattle.std.specs.Prelude.{◌≡◌, eqb, if◌then◌else◌};
 ghost use Rattle.lists.specs.Words.{at};
 ghost use Rattle.lists.specs.Tests.{first_of};
 ghost use Rattle.answers.specs.Refusals.{told};
-ghost use Rattle.trains.specs.Steps.{step_number};
 ghost use Rattle.trains.specs.Cycle.{due_tests, wish_tests, upper_end, new_speed, sped_at, requested_at, moved_in};
 ghost use Rattle.steps.specs.Room.{Room};
 ghost use Rattle.steps.specs.Left.{left_of};
@@ -16,21 +15,21 @@ use tables::Tables;
 use trains::{Spot, Step, Train};
 
 // ---- the tests of a step
-pub fn check_due(due: u8, step: Step) -> Result<(), Refusal>
-    ensures { told result ≡ first_of (due_tests (step_number step) due) }
+pub fn check_due(due: u8, step: u8) -> Result<(), Refusal>
+    ensures { told result ≡ first_of (due_tests step due) }
 {
-    if due == step.number() {
+    if due == step {
         Ok(())
     } else {
         Err(Refusal::Turn)
     }
 }
 
-pub fn check_wishes(due: u8, wishes: &[u16]) -> Result<(), Refusal>
-    ensures { told result ≡ first_of (wish_tests due (length wishes.now)) }
+pub fn check_wishes(due: u8, wishes: usize) -> Result<(), Refusal>
+    ensures { told result ≡ first_of (wish_tests due wishes) }
 {
-    check_due(due, Step::Speed)?;
-    if wishes.len() == 24 {
+    check_due(due, Step::Speed as u8)?;
+    if wishes == 24 {
         Ok(())
     } else {
         Err(Refusal::Wishes)

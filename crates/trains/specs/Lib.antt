@@ -1,5 +1,4 @@
 pub mod Due
-pub mod Steps
 pub mod Train
 pub mod Spot
 pub mod Cycle

@@ -2,7 +2,6 @@
 #![tactic(auto)]
 
 ghost use Rattle.std.specs.Prelude.{◌≡◌};
-ghost use Rattle.trains.specs.Steps.{step_number};
 ghost use Rattle.trains.specs.Train.{off, is_on, entered, with_speed, asking, with_asking, answered, moved_to, train_at};
 ghost use Rattle.trains.specs.Cycle.{wants};
 
@@ -18,14 +17,6 @@ pub enum Step {
     Request = 1,
     Grant = 2,
     Position = 3,
-}
-
-impl Step {
-    pub fn number(self) -> u8
-        ensures { result ≡ step_number self }
-    {
-        self as u8
-    }
 }
 
 // Route and place are counted from 1; route 0 is a train off, which is all zero. Place and position are its front's. Count: the grant

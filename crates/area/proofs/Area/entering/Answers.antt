@@ -1,5 +1,4 @@
 use Rattle.std.proofs.Common.{refl, sym, ◌∙◌}
-use Rattle.std.proofs.lemmas.Result.{err_from_is_err_and}
 use Rattle.trains.specs.Train.{Journey}
 use Rattle.trains.specs.EnterLeave.{entry_tests}
 use Rattle.area.specs.Calls.{after_enter, enter_call}
@@ -11,17 +10,15 @@ unfolding enter_call
 returns-in_err-examine c =
     let a = c.args.self.now in
     let j : Journey = record { route = c.args.route; length = c.args.length } in
-    let p = err_from_is_err_and c.from_residual.result c.from_residual.ensures.1 in
-    rw (p.1, p.2) (unsound_by (entry_tests a.tables a.allocations a.trains c.args.train j c.args.speed) (after_enter a c.args.train j c.args.speed) a (sym c.in_err-examine.was ∙ c.examine.ensures))
+    unsound_by (entry_tests a.tables a.allocations a.trains c.args.train j c.args.speed) (after_enter a c.args.train j c.args.speed) a _ c.from_residual.ensures.1 (sym c.in_err-examine.was ∙ c.examine.ensures)
 
 pub returns-in_err-entry : goal.returns-in_err-entry
 unfolding enter_call
 returns-in_err-entry c =
     let a = c.args.self.now in
     let j : Journey = record { route = c.args.route; length = c.args.length } in
-    let p = err_from_is_err_and c.from_residual-in_err-entry.result c.from_residual-in_err-entry.ensures.1 in
     let found = found_spots a (sym c.in_ok-examine.was ∙ c.examine.ensures) in
-    rw (p.1, p.2) (refused_by (entry_tests a.tables a.allocations a.trains c.args.train j c.args.speed) (after_enter a c.args.train j c.args.speed) a _ found c.in_err-entry.ensures.tests)
+    refused_by (entry_tests a.tables a.allocations a.trains c.args.train j c.args.speed) (after_enter a c.args.train j c.args.speed) a _ _ c.from_residual-in_err-entry.ensures.1 found c.in_err-entry.ensures.tests
 
 pub returns : goal.returns
 unfolding enter_call after_enter

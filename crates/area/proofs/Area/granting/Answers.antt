@@ -1,5 +1,4 @@
 use Rattle.std.proofs.Common.{refl, sym, ◌∙◌}
-use Rattle.std.proofs.lemmas.Result.{err_from_is_err_and}
 use Rattle.trains.specs.Due.{grant_due}
 use Rattle.trains.specs.Cycle.{due_tests}
 use Rattle.area.specs.Calls.{after_grant, grant_call}
@@ -10,16 +9,14 @@ pub returns-in_err-examine : goal.returns-in_err-examine
 unfolding grant_call
 returns-in_err-examine c =
     let a = c.args.self.now in
-    let p = err_from_is_err_and c.from_residual.result c.from_residual.ensures.1 in
-    rw (p.1, p.2) (unsound_by (due_tests grant_due a.due) (after_grant a) a (sym c.in_err-examine.was ∙ c.examine.ensures))
+    unsound_by (due_tests grant_due a.due) (after_grant a) a _ c.from_residual.ensures.1 (sym c.in_err-examine.was ∙ c.examine.ensures)
 
 pub returns-in_err-check_due : goal.returns-in_err-check_due
 unfolding grant_call
 returns-in_err-check_due c =
     let a = c.args.self.now in
-    let p = err_from_is_err_and c.from_residual-in_err-check_due.result c.from_residual-in_err-check_due.ensures.1 in
     let found = found_spots a (sym c.in_ok-examine.was ∙ c.examine.ensures) in
-    rw (p.1, p.2) (refused_by (due_tests grant_due a.due) (after_grant a) a _ found c.in_err-check_due.ensures)
+    refused_by (due_tests grant_due a.due) (after_grant a) a _ _ c.from_residual-in_err-check_due.ensures.1 found c.in_err-check_due.ensures
 
 pub returns : goal.returns
 unfolding grant_call after_grant

@@ -1,5 +1,4 @@
 use Rattle.std.proofs.Common.{refl, sym, ◌∙◌}
-use Rattle.std.proofs.lemmas.Result.{err_from_is_err_and}
 use Rattle.trains.specs.EnterLeave.{exit_tests}
 use Rattle.area.specs.Calls.{after_leave, leave_call}
 use Rattle.area.proofs.Laws.{found_spots, unsound_by, refused_by, finished_by}
@@ -9,16 +8,14 @@ pub returns-in_err-examine : goal.returns-in_err-examine
 unfolding leave_call
 returns-in_err-examine c =
     let a = c.args.self.now in
-    let p = err_from_is_err_and c.from_residual.result c.from_residual.ensures.1 in
-    rw (p.1, p.2) (unsound_by (exit_tests a.tables a.trains c.args.train) (after_leave a c.args.train) a (sym c.in_err-examine.was ∙ c.examine.ensures))
+    unsound_by (exit_tests a.tables a.trains c.args.train) (after_leave a c.args.train) a _ c.from_residual.ensures.1 (sym c.in_err-examine.was ∙ c.examine.ensures)
 
 pub returns-in_err-n : goal.returns-in_err-n
 unfolding leave_call
 returns-in_err-n c =
     let a = c.args.self.now in
-    let p = err_from_is_err_and c.from_residual-in_err-n.result c.from_residual-in_err-n.ensures.1 in
     let found = found_spots a (sym c.in_ok-examine.was ∙ c.examine.ensures) in
-    rw (p.1, p.2) (refused_by (exit_tests a.tables a.trains c.args.train) (after_leave a c.args.train) a _ found c.in_err-n.ensures.tests)
+    refused_by (exit_tests a.tables a.trains c.args.train) (after_leave a c.args.train) a _ _ c.from_residual-in_err-n.ensures.1 found c.in_err-n.ensures.tests
 
 pub returns : goal.returns
 unfolding leave_call after_leave

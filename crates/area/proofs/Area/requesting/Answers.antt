@@ -1,5 +1,4 @@
 use Rattle.std.proofs.Common.{refl, sym, ◌∙◌}
-use Rattle.std.proofs.lemmas.Result.{err_from_is_err_and}
 use Rattle.trains.specs.Due.{request_due}
 use Rattle.trains.specs.Cycle.{due_tests}
 use Rattle.cycle.proofs.Laws.{requested_beside}
@@ -11,16 +10,14 @@ pub returns-in_err-spots : goal.returns-in_err-spots
 unfolding request_call
 returns-in_err-spots c =
     let a = c.args.self.now in
-    let p = err_from_is_err_and c.from_residual.result c.from_residual.ensures.1 in
-    rw (p.1, p.2) (unsound_by (due_tests request_due a.due) (after_request a) a (sym c.in_err-spots.was ∙ c.examine.ensures))
+    unsound_by (due_tests request_due a.due) (after_request a) a _ c.from_residual.ensures.1 (sym c.in_err-spots.was ∙ c.examine.ensures)
 
 pub returns-in_err-check_due : goal.returns-in_err-check_due
 unfolding request_call
 returns-in_err-check_due c =
     let a = c.args.self.now in
-    let p = err_from_is_err_and c.from_residual-in_err-check_due.result c.from_residual-in_err-check_due.ensures.1 in
     let found = found_spots a (sym c.in_ok-spots.was ∙ c.examine.ensures) in
-    rw (p.1, p.2) (refused_by (due_tests request_due a.due) (after_request a) a _ found c.in_err-check_due.ensures)
+    refused_by (due_tests request_due a.due) (after_request a) a _ _ c.from_residual-in_err-check_due.ensures.1 found c.in_err-check_due.ensures
 
 pub returns : goal.returns
 unfolding request_call after_request

@@ -1,5 +1,4 @@
 use Rattle.std.proofs.Common.{refl, sym, ◌∙◌}
-use Rattle.std.proofs.lemmas.Result.{err_from_is_err_and}
 use lib.ListN.{length}
 use Rattle.trains.specs.Cycle.{wish_tests}
 use Rattle.cycle.proofs.Laws.{sped_beside}
@@ -11,16 +10,14 @@ pub returns-in_err-spots : goal.returns-in_err-spots
 unfolding speed_call
 returns-in_err-spots c =
     let a = c.args.self.now in
-    let p = err_from_is_err_and c.from_residual.result c.from_residual.ensures.1 in
-    rw (p.1, p.2) (unsound_by (wish_tests a.due (length c.args.wishes.now)) (after_speed a c.args.wishes.now) a (sym c.in_err-spots.was ∙ c.examine.ensures))
+    unsound_by (wish_tests a.due (length c.args.wishes.now)) (after_speed a c.args.wishes.now) a _ c.from_residual.ensures.1 (sym c.in_err-spots.was ∙ c.examine.ensures)
 
 pub returns-in_err-check_wishes : goal.returns-in_err-check_wishes
 unfolding speed_call
 returns-in_err-check_wishes c =
     let a = c.args.self.now in
-    let p = err_from_is_err_and c.from_residual-in_err-check_wishes.result c.from_residual-in_err-check_wishes.ensures.1 in
     let found = found_spots a (sym c.in_ok-spots.was ∙ c.examine.ensures) in
-    rw (p.1, p.2) (refused_by (wish_tests a.due (length c.args.wishes.now)) (after_speed a c.args.wishes.now) a _ found c.in_err-check_wishes.ensures)
+    refused_by (wish_tests a.due (length c.args.wishes.now)) (after_speed a c.args.wishes.now) a _ _ c.from_residual-in_err-check_wishes.ensures.1 found c.in_err-check_wishes.ensures
 
 pub returns : goal.returns
 unfolding speed_call after_speed
