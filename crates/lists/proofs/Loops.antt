@@ -4,7 +4,8 @@
 --     the first number that fails      invariant  Scanned n p i          scan-begin, scan-more, scan-found, scan-over
 --     an array filled entry by entry   invariant  Made n f l old i new   make-begin, make-more, make-over
 --     a fold over the entries          foldl f b (take i l)              fold_more
-use Rattle.std.specs.Prelude.{if◌then◌else◌}
+use Rattle.std.specs.Prelude.{if◌then◌else◌, Option}
+use Rattle.std.specs.Option.{is_some}
 use mathlib.Core.Path.{◌≡◌, refl, sym, ap, ◌∙◌}
 use mathlib.Core.List.{List, [], ◌∷◌, foldl, foldl-append}
 use mathlib.Core.Logic.{⊎_elim}
@@ -16,7 +17,7 @@ use native.Mathlib.Omega.{arith}
 use lib.Dec.{eqb}
 use lib.ListN.{length, get_or, set, take}
 use lib.Seq.{take-suc}
-use Rattle.lists.specs.Words.{each, every, ◌or_else◌, least, first_failing}
+use Rattle.lists.specs.Words.{each, every, ◌or_else◌, least, first_failing, found}
 use borrow.Author.Tests.{eq-eqb, ne_eqb, not-true}
 use Rattle.lists.proofs.Cases.{by_test, not_both, cases, lt_or_le, eq_or_ne, test_fails, test_holds}
 
@@ -158,6 +159,16 @@ every_scan n ok =
     (λ e.
     ne_eqb (first_failing n ok) 0 e
     ∙ sym (every_fails ok n (first_failing n ok) (omega arith) (failing_le ok n) (failing_fails ok n (omega arith))))
+
+-- an option that says which number fails is none exactly where the test holds for every number
+none_found : (m : ℕ) (r : Option ℕ) (none : Bool) → r ≡ found m → is_some r ≡ not none → none ≡ eqb m 0
+none_found zero r true e f = refl
+none_found zero r false e f = let z : false ≡ true = rw e at f in cc
+none_found (suc m) r true e f = let z : true ≡ false = rw e at f in cc
+none_found (suc m) r false e f = sym (ne_eqb (suc m) 0 (λ z. omega arith))
+
+pub none_every : (n : ℕ) (ok : ℕ → Bool) (r : Option ℕ) (none : Bool) → r ≡ found (first_failing n ok) → is_some r ≡ not none → none ≡ every n ok
+none_every n ok r none e f = none_found _ r none e f ∙ every_scan n ok
 
 -- a scan of the numbers 1 to n by index, from 0: those up to i pass the test
 pub record Scanned (n : ℕ) (ok : ℕ → Bool) (i : ℕ) : Type 0 where

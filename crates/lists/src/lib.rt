@@ -19,7 +19,7 @@ pub fn entry<T: Copy>(l: &[T], n: usize, none: T) -> T
 pub fn set_entry<T: Copy, const N: usize>(xs: &mut [T; N], n: usize, x: T)
     ensures { xs.new ≡ each (λ k y. if eqb k n then x else y) xs.old }
 {
-    if 1 <= n && n <= N {
+    if (1..=N).contains(&n) {
         xs[n - 1] = x;
     }
 }

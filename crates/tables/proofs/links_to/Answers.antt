@@ -1,5 +1,6 @@
 -- A segment of 1 to 62 has its two links at the indices 2 * s - 2 and 2 * s - 1, which are read straight; of any other number both are
 -- looked up.
+use Rattle.std.proofs.Common.{rules}
 use Prim.Native.Nat.{ℕ, ◌+◌, ◌-◌, ◌*◌, ◌≤◌}
 use mathlib.Core.Path.{◌≡◌}
 use mathlib.Core.List.{List}
@@ -8,7 +9,6 @@ use native.Mathlib.Omega.{arith}
 use lib.Dec.{eqb}
 use lib.ListN.{get_or}
 use borrow.Author.Tests.{eq-eqb, ne_eqb}
-use Rattle.lists.proofs.Cases.{facts}
 use Rattle.lists.proofs.Numbered.{nth_in}
 use Rattle.tables.specs.Tables.{links_to}
 use Rattle.tables.proofs.links_to.Goals as goal
@@ -22,13 +22,7 @@ by_index links s n h =
     rw (nth_in 0 links (2 * s - 1) (omega arith), nth_in 0 links (2 * s) (omega arith), e, f)
 
 pub returns-then-links-i : goal.returns-then-links-i
-returns-then-links-i c =
-    let f = simp facts at c.if-s.true in rw (by_index c.args.links.now c.args.s c.args.n f.0, eq-eqb _ _ c.if-links-i.true)
+returns-then-links-i c = rw (by_index c.args.links.now c.args.s c.args.n (search rules), eq-eqb _ _ c.if-links-i.true)
 
-pub returns-then-s : goal.returns-then-s
-returns-then-s c =
-    let f = simp facts at c.if-s.true in rw (by_index c.args.links.now c.args.s c.args.n f.0, ne_eqb _ _ c.if-links-i.false)
-
-pub returns : goal.returns
-unfolding links_to
-returns c = simp (c.first_link.ensures, c.second_link.ensures)
+pub returns-else-links-i : goal.returns-else-links-i
+returns-else-links-i c = rw (by_index c.args.links.now c.args.s c.args.n (search rules), ne_eqb _ _ c.if-links-i.false)
