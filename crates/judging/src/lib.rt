@@ -1,14 +1,14 @@
 // From a file to its tables, or to the first rule that it breaks. The file is lent and only read.
 #![tactic(auto)]
 
-ghost use Rattle.std.specs.Prelude.{◌≡◌, ◌≤◌, ℕ, [], ◌∷◌, IfOk};
+ghost use Rattle.std.specs.Prelude.{◌≡◌, ◌≤◌, [], ◌∷◌, true, MatchOption, IfOk};
 ghost use Rattle.lists.specs.Words.{first_failing, found};
 ghost use Rattle.lists.specs.Tests.{first_of};
 ghost use Rattle.answers.specs.Refusals.{refusal_number};
 ghost use Rattle.file.specs.Blocks.{first_damaged, first_misfiled};
 ghost use Rattle.tables.specs.Bounds.{most_segments, bounds};
 ghost use Rattle.decoding.specs.Decoding.{decoded};
-ghost use Rattle.reading.specs.Verdict.{header_filed, reserved, record_ok, at_block, at_number, table_tests, reading_of};
+ghost use Rattle.reading.specs.Verdict.{header_filed, reserved, record_ok, at_block, table_tests, reading_of};
 ghost use Rattle.reading.specs.Results.{told_fault, read_as};
 
 use answers::Refusal;
@@ -49,22 +49,9 @@ fn first_bad_record(file: &File, t: &Tables) -> Option<u8>
     first_failing(MOST_SEGMENTS, |s| segment_ok(t, s) & is_reserved(file, s))
 }
 
-// A refusal at the block that was found; blocks are found counted from 1, and their places are counted from 0.
-fn no_block(refusal: Refusal, block: Option<u8>) -> Result<(), Fault>
-    ensures { (k : ℕ) → block ≡ found k → told_fault result ≡ first_of (at_block k (refusal_number refusal) ∷ []) }
-{
-    match block {
-        Some(n) => Err(Fault {
-            refusal,
-            place: (n as u16).saturating_sub(1),
-        }),
-        None => Ok(()),
-    }
-}
-
-// A refusal at the record, segment or route that was found.
+// A refusal at the place that was found, if one was.
 fn none_at(refusal: Refusal, place: Option<u8>) -> Result<(), Fault>
-    ensures { (k : ℕ) → place ≡ found k → told_fault result ≡ first_of (at_number k (refusal_number refusal) ∷ []) }
+    ensures { MatchOption place (told_fault result ≡ first_of []) (λ p. told_fault result ≡ record { holds = true; number = refusal_number refusal; place = p }) }
 {
     match place {
         Some(n) => Err(Fault {
@@ -81,8 +68,15 @@ fn judge(file: &File) -> Result<Tables, Fault>
     ensures verdict { told_fault result ≡ first_of (at_block (first_damaged file.now) 2 ∷ at_block (first_misfiled file.now) 3 ∷ table_tests bounds file.now (decoded file.now)) }
     ensures tables { IfOk result (λ T. T ≡ decoded file.now) }
 {
-    no_block(Refusal::Damaged, first_damaged(file))?;
-    no_block(Refusal::Misfiled, first_misfiled(file))?;
+    // Blocks are found counted from 1, and their places are counted from 0.
+    none_at(
+        Refusal::Damaged,
+        first_damaged(file).map(|n| n.saturating_sub(1)),
+    )?;
+    none_at(
+        Refusal::Misfiled,
+        first_misfiled(file).map(|n| n.saturating_sub(1)),
+    )?;
     let t = decode(file);
     if !is_header_filed(file) || !header_ok(&t) {
         return Err(Refusal::Header.into());
