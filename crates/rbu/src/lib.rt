@@ -20,7 +20,7 @@ ghost use Rattle.kept.specs.Kept.{Started, Answered};
 ghost use Rattle.writing.specs.Writing.{Written};
 ghost use Rattle.rbu.specs.After.{area_after, state_after, Continues};
 
-use answers::Refusal;
+use answers::{Refusal, number_of};
 use area::{Area, Change};
 
 // ---- a record that the caller keeps: any bytes are a record. A function is lent it and writes back what the call hands back.
@@ -109,10 +109,10 @@ pub extern "C" fn rbu_position(area: &mut Area) -> u8
 pub extern "C" fn rbu_report(area: &Area, allocated: &mut u8, free: &mut u8) -> u8
     ensures { (result ≡ number_of (reported area.now).answer) × ((allocated.new ≡ (reported area.now).allocated) × (free.new ≡ (reported area.now).free)) }
 {
-    let told = running::report(area);
-    *allocated = told.allocated;
-    *free = told.free;
-    told.number
+    let report = running::report(area);
+    *allocated = report.allocated;
+    *free = report.free;
+    number_of(report.answer)
 }
 
 // The record meets every condition of a sound record.
@@ -128,7 +128,7 @@ pub extern "C" fn rbu_is_sound(area: &Area) -> bool
 pub extern "C" fn rbu_write(area: &Area, buffer: &mut [u8]) -> u8
     ensures { Written area.now buffer.old result buffer.new }
 {
-    writing::write(*area, buffer)
+    number_of(writing::write(*area, buffer))
 }
 
 // ---- files
@@ -221,7 +221,7 @@ pub extern "C" fn rbu_report_record(
 pub extern "C" fn rbu_write_record(file: &[u8], state: &[u8], buffer: &mut [u8]) -> u8
     ensures { Written (record_of file.now state.now) buffer.old result buffer.new }
 {
-    writing::write(state::record_of(file, state), buffer)
+    number_of(writing::write(state::record_of(file, state), buffer))
 }
 
 // ---- braking

@@ -10,15 +10,7 @@ ghost use Rattle.area.specs.Examined.{outcome_of};
 ghost use Rattle.kept.specs.Kept.{Started, Answered};
 
 use answers::Refusal;
-use area::{Area, Change, Outcome};
-
-// The number of the answer to a report, and the report's two numbers.
-#[derive(Clone, Copy, Debug, PartialEq, Eq)]
-pub struct ToldReport {
-    pub number: u8,
-    pub allocated: u8,
-    pub free: u8,
-}
+use area::{Area, Change, Outcome, Report};
 
 #[tactic(auto, using(kept::proofs::Laws::started))]
 pub fn start(file: &[u8]) -> Outcome
@@ -69,13 +61,8 @@ pub fn position(area: &Area) -> Result<Change, Refusal>
     area.positioning()
 }
 
-pub fn report(area: &Area) -> ToldReport
-    ensures { (result.number ≡ number_of (reported area.now).answer) × ((result.allocated ≡ (reported area.now).allocated) × (result.free ≡ (reported area.now).free)) }
+pub fn report(area: &Area) -> Report
+    ensures { result ≡ reported area.now }
 {
-    let report = area.report();
-    ToldReport {
-        number: answers::number_of(report.answer),
-        allocated: report.allocated,
-        free: report.free,
-    }
+    area.report()
 }

@@ -2,18 +2,19 @@
 #![tactic(auto)]
 
 ghost use Rattle.std.specs.Prelude.{◌≡◌};
+ghost use Rattle.answers.specs.Answers.{number_of};
 ghost use Rattle.writing.specs.Writing.{Written, rewrite_answer, rewritten_to};
 
-use answers::{Answer, number_of};
+use answers::Answer;
 use area::{Area, Outcome};
 use loading::load;
 
-// The number of the answer. By value: only of a record of its own does a function know the lengths of all its lists, by which the file that
-// is written loads as the tables.
-pub fn write(area: Area, buffer: &mut [u8]) -> u8
-    ensures { Written area buffer.old result buffer.new }
+// By value: only of a record of its own does a function know the lengths of all its lists, by which the file that is written loads as the
+// tables.
+pub fn write(area: Area, buffer: &mut [u8]) -> Answer
+    ensures { Written area buffer.old (number_of result) buffer.new }
 {
-    number_of(area.write(buffer))
+    area.write(buffer)
 }
 
 // Loads a file and writes it into a buffer, which is then the file. Load's answer where it refuses the file.

@@ -1,5 +1,5 @@
 -- The record's method has written; its arrays have their lengths.
-use mathlib.Core.Path.{ap, ◌∙◌}
+use mathlib.Core.Path.{ap}
 use borrow.Author.Rules.{rules}
 use Rattle.answers.specs.Answers.{number_of}
 use Rattle.writing.specs.Writing.{Sized}
@@ -17,4 +17,4 @@ returns c =
       flags = search rules;
       routebytes = search rules;
     } in
-    write_told c.args.area _ sized (c.number_of.ensures ∙ ap number_of c.write.ensures.value) c.write.ensures.buffer_after
+    write_told c.args.area _ sized (ap number_of c.write.ensures.value) c.write.ensures.buffer_after
