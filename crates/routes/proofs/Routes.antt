@@ -2,7 +2,6 @@
 -- its 32 bytes at one stroke.
 use Prim.Native.Nat.{ℕ, zero, suc, ◌+◌, ◌-◌, ◌*◌, ◌≤◌, ◌<◌}
 use mathlib.Core.Path.{◌≡◌, refl, sym, ◌∙◌}
-use mathlib.Core.Logic.{inr}
 use mathlib.Core.List.{List, [], ◌∷◌}
 use mathlib.Core.Bool.{Bool, true, false, ◌&&◌, and-false}
 use native.Mathlib.Numerals.{add-one}
@@ -10,10 +9,9 @@ use native.Mathlib.Omega.{arith}
 use lib.Dec.{leb, eqb}
 use lib.ListN.{length, get_or, replicate}
 use lib.Pointwise.{pointwise}
-use borrow.Author.Tests.{le-leb, lt-leb, eq-eqb, ne_eqb}
 use Rattle.lists.specs.Words.{every}
-use Rattle.lists.proofs.Cases.{either_yes, facts}
-use Rattle.lists.proofs.Loops.{every_none, every_first, every_more, every_fails, every_all, every_same}
+use Rattle.lists.proofs.Cases.{facts}
+use Rattle.lists.proofs.Loops.{every_none, every_first, every_more, every_fails, every_same}
 use Rattle.tables.specs.Bounds.{longest_route}
 use Rattle.tables.specs.Tables.{links_to, count_of, segment_at}
 use Rattle.tables.specs.Rules.{number_in, step_in, zero_in, rest_in, used_route_ok, unused_route_ok}
@@ -41,16 +39,6 @@ module _ (routebytes : List ℕ) (r : ℕ) where
   count_at : segment_at routebytes r 0 ≡ count_of routebytes r
   unfolding segment_at count_of
   count_at = let e : 32 * r - 31 + 0 ≡ 32 * r - 31 = omega arith in rw e
-
-  -- a place up to the count, a place that is zero, and one after the count that is not
-  pub rest_upto : every (count_of routebytes r) (rest_in routebytes r) ≡ true
-  rest_upto = every_all _ (count_of routebytes r) (λ p low high. rw (le-leb p (count_of routebytes r) high))
-
-  pub rest_zero : (p : ℕ) → segment_at routebytes r p ≡ 0 → rest_in routebytes r p ≡ true
-  rest_zero p e = either_yes (leb p (count_of routebytes r)) _ (inr (eq-eqb _ _ e))
-
-  pub rest_other : (p : ℕ) → count_of routebytes r < p → (segment_at routebytes r p ≡ 0 → ⊥) → rest_in routebytes r p ≡ false
-  rest_other p above ne = rw (lt-leb p (count_of routebytes r) above, ne_eqb _ _ ne)
 
   -- count and rest are as they should be
   pub record Counted (count : ℕ) : Type 0 where

@@ -7,7 +7,7 @@ ghost use Rattle.tables.specs.Bounds.{most_routes, longest_route};
 ghost use Rattle.tables.specs.Tables.{count_of, segment_at};
 ghost use Rattle.tables.specs.Rules.{rest_in, used_route_ok, unused_route_ok, route_ok};
 
-use lists::first_failing;
+use lists::{every, first_failing};
 use tables::{LONGEST_ROUTE, MOST_ROUTES, Tables, links_to};
 
 fn is_within(n: u8, most: u8) -> bool
@@ -38,12 +38,12 @@ impl<'a> Record<'a> {
         requires { count ≡ count_of self.now.t.now.routebytes self.now.r }
         ensures { result ≡ every longest_route (rest_in self.now.t.now.routebytes self.now.r) }
     {
-        for p in count..LONGEST_ROUTE {
-            if self.byte(p + 1) != 0 {
-                return false;
-            }
-        }
-        true
+        every(
+            LONGEST_ROUTE,
+            |p| -> bool
+                requires { p ≤ longest_route }
+            { p <= count || self.byte(p) == 0 },
+        )
     }
 
     // The route is walked up to its count, each place with the segment before it in hand.
