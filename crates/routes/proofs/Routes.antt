@@ -1,38 +1,17 @@
 -- Rule 10 as the code tests it: a route by the places after its count and by a walk along the places up to it; a record above R by
 -- its 32 bytes at one stroke.
-use Prim.Native.Nat.{ℕ, zero, suc, ◌+◌, ◌-◌, ◌*◌, ◌≤◌, ◌<◌}
-use mathlib.Core.Path.{◌≡◌, refl, sym, ◌∙◌}
-use mathlib.Core.List.{List, [], ◌∷◌}
+use Prim.Native.Nat.{ℕ, ◌+◌, ◌-◌, ◌*◌, ◌≤◌, ◌<◌}
+use mathlib.Core.Path.{◌≡◌, sym, ◌∙◌}
+use mathlib.Core.List.{List}
 use mathlib.Core.Bool.{Bool, true, false, ◌&&◌, and-false}
-use native.Mathlib.Numerals.{add-one}
 use native.Mathlib.Omega.{arith}
-use lib.Dec.{leb, eqb}
-use lib.ListN.{length, get_or, replicate}
-use lib.Pointwise.{pointwise}
+use lib.Dec.{leb}
 use Rattle.lists.specs.Words.{every}
 use Rattle.lists.proofs.Cases.{facts}
-use Rattle.lists.proofs.Loops.{every_none, every_first, every_more, every_fails, every_same}
+use Rattle.lists.proofs.Loops.{every_none, every_first, every_more, every_fails}
 use Rattle.tables.specs.Bounds.{longest_route}
 use Rattle.tables.specs.Tables.{links_to, count_of, segment_at}
 use Rattle.tables.specs.Rules.{number_in, step_in, zero_in, rest_in, used_route_ok, unused_route_ok}
-
--- n bytes are the same as n zeros where each of them is zero
-zeros : (n : ℕ) (l : List ℕ) → length l ≡ n → pointwise eqb l (replicate n 0) ≡ every n (λ (k : ℕ). eqb (get_or l (k - 1) 0) 0)
-zeros zero [] e = sym (every_none _)
-zeros zero (x ∷ l) e = absurd (omega arith)
-zeros (suc n) [] e = absurd (omega arith)
-zeros (suc n) (x ∷ l) e =
-    let rest : every n (λ (k : ℕ). eqb (get_or l (k - 1) 0) 0) ≡ every n (λ (k : ℕ). eqb (get_or (x ∷ l) (k + 1 - 1) 0) 0)
-    = every_same n _ _ (λ k low high. beside k low) in
-    let first = every_first (λ (k : ℕ). eqb (get_or (x ∷ l) (k - 1) 0) 0) n in
-    rw (zeros n l (omega arith), rest) (sym (rw add-one at first))
-  where
-    beside : (k : ℕ) → 1 ≤ k → eqb (get_or l (k - 1) 0) 0 ≡ eqb (get_or (x ∷ l) (k + 1 - 1) 0) 0
-    beside zero low = absurd (omega arith)
-    beside (suc k) low =
-        let e : suc k + 1 - 1 ≡ suc k = omega arith in
-        let f : suc k - 1 ≡ k = omega arith in
-        rw (e, f) refl
 
 module _ (routebytes : List ℕ) (r : ℕ) where
   -- the count stands where the place 0 would
