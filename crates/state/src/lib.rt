@@ -1,7 +1,8 @@
 // The running state of an area as bytes, into a lent buffer and from one. The layout is in docs/FORMATS.md.
 #![tactic(auto)]
 
-ghost use Rattle.std.specs.Prelude.{◌≡◌, ◌≤◌, length};
+ghost use Rattle.std.specs.Prelude.{◌≡◌, ◌≤◌, ℕ, List};
+ghost use Rattle.std.specs.List.{flat_map};
 ghost use Rattle.file.specs.Bytes.{put_at};
 ghost use Rattle.trains.specs.Train.{most_trains};
 ghost use Rattle.state.specs.State.{train_bytes, train_rows, head_size, head_bytes, state_into, tables_of, train_of, record_of, ReadsBack};
@@ -9,7 +10,7 @@ ghost use Rattle.state.specs.State.{train_bytes, train_rows, head_size, head_byt
 use area::Area;
 use decoding::decode;
 use file::File;
-use lists::tabulate;
+use lists::{each, tabulate};
 use octets::{byte, four, four_at, put, two, two_at};
 use tables::Tables;
 use trains::Train;
@@ -37,25 +38,24 @@ fn head_bytes(due: u8, allocations: &[u8; 62]) -> [u8; 64]
     head
 }
 
-fn put_trains(trains: &[Train; 24], bytes: &mut [u8])
-    ensures bytes_after { bytes.new ≡ put_at head_size (train_rows trains.now) bytes.old }
-    ensures many { length trains.now ≡ most_trains }
+fn train_rows(trains: &[Train; 24]) -> [[u8; 32]; 24]
+    ensures { flat_map (λ (row : List ℕ). row) result ≡ train_rows trains.now }
 {
-    for (i, x) in trains.iter().enumerate() {
-        put(bytes, (64 + 32 * i) as u16, &train_bytes(*x));
-    }
+    each(
+        trains,
+        |_, x| -> [u8; 32]
+            ensures { result ≡ train_bytes x }
+        { train_bytes(x) },
+    )
 }
 
-// Writes the state into a buffer, as far as that has room. Its bytes are made apart: in an array of a known size the places of the
-// rows need no test, and the buffer's room is looked at once.
+// Writes the state into a buffer, as far as that has room.
 pub fn write_state(area: &Area, buffer: &mut [u8])
     ensures buffer_after { buffer.new ≡ state_into area.now buffer.old }
     ensures reads_back { ReadsBack area.now buffer.old buffer.new }
 {
-    let mut bytes = [0; 832];
-    put(&mut bytes, 0, &head_bytes(area.due, &area.allocations));
-    put_trains(&area.trains, &mut bytes);
-    put(buffer, 0, &bytes);
+    put(buffer, 0, &head_bytes(area.due, &area.allocations));
+    put(buffer, 64, train_rows(&area.trains).as_flattened());
 }
 
 // ---- any record at all, from bytes
