@@ -13,6 +13,7 @@ ghost use Rattle.area.specs.Examined.{examined, outcome_of};
 
 use answers::{Answer, Refusal};
 use lists::with_entry;
+use summary::{Summary, summary_of};
 use tables::Tables;
 use trains::{Spot, Step, Train};
 
@@ -241,11 +242,11 @@ impl Area {
                 free: 0,
             };
         }
-        let summary = summary::summary_of(&self.allocations, self.tables.segments);
+        let Summary { allocated, free } = summary_of(&self.allocations, self.tables.segments);
         Report {
             answer: Answer::Done,
-            allocated: summary.allocated,
-            free: summary.free,
+            allocated,
+            free,
         }
     }
 

@@ -15,4 +15,4 @@ returns-in-Err c =
 pub returns : goal.returns
 unfolding reported
 returns c =
-    rw (found_spots c.args.self.now (sym c.in_default.is ∙ c.examine.ensures), c.summary_of-summary.ensures, answer_done 0 0 refl) refl
+    rw (found_spots c.args.self.now (sym c.in_default.is ∙ c.examine.ensures), c.summary_of-allocated.ensures, answer_done 0 0 refl) refl
