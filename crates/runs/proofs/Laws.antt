@@ -138,19 +138,25 @@ module _ (s old : List ℕ) (a₀ : Area) (answers : List ℕ) (a : Area) (k : �
 
   -- what the contract of a run says
   abbrev pub Ended : Type 0
-  Ended = (◌≡◌ {A = Ran} (record { area = a; calls = k }) (ran_of a₀ s (length old))) × (answers ≡ written a₀ s old)
+  Ended =
+      record { value : ◌≡◌ {A = Ran} (record { area = a; calls = k }) (ran_of a₀ s (length old)); answers_after : answers ≡ written a₀ s old }
 
   abbrev pub Over : ℕ → Type 0
-  Over i = (◌≡◌ {A = Ran} (record { area = a; calls = k }) (ran_of a₀ s (length old))) × (set answers i (get_or answers i 0) ≡ written a₀ s old)
+  Over i =
+      record {
+        value : ◌≡◌ {A = Ran} (record { area = a; calls = k }) (ran_of a₀ s (length old));
+        answers_after : set answers i (get_or answers i 0) ≡ written a₀ s old;
+      }
 
   going_end : rest s (length old) k ≡ [] → Ended
   unfolding after_from
   going_end e =
       let w : g.world ≡ world_of a₀ s (length old) = ap (after_from g.world) (sym e) ∙ g.all in
-      let n : k ≡ length (ran_calls s (length old)) = omega (arith, ap length e, g.calls) in (
-        same_ran _ _ _ _ (sym g.area ∙ ap (λ (x : World). x.area) w) n,
-        whole answers _ old k _ (sym (ap (λ (x : World). map number_of x.answers) w) ∙ g.head) g.tail n,
-      )
+      let n : k ≡ length (ran_calls s (length old)) = omega (arith, ap length e, g.calls) in
+      record {
+        value = same_ran _ _ _ _ (sym g.area ∙ ap (λ (x : World). x.area) w) n;
+        answers_after = whole answers _ old k _ (sym (ap (λ (x : World). map number_of x.answers) w) ∙ g.head) g.tail n;
+      }
 
   -- there is no room for another answer; `answers` is then the whole buffer
   pub going_full : length answers ≤ k → Ended
@@ -160,7 +166,7 @@ module _ (s old : List ℕ) (a₀ : Area) (answers : List ℕ) (a : Area) (k : �
   going_no : is_call (record_at s k) ≡ false → (i : ℕ) → Over i
   going_no e i =
       let both = going_end (rest_no s (length old) k e) in
-      (both.0, set-get_or answers i 0 ∙ both.1)
+      record { value = both.value; answers_after = set-get_or answers i 0 ∙ both.answers_after }
 
   -- of the script is left what comes after k records
   module _ {rest : List ℕ} (left : rest ≡ drop (32 * k) s) where

@@ -15,17 +15,14 @@ loop-answer-preserved c =
 pub returns-in_default : goal.returns-in_default
 returns-in_default c =
     let l = c.loop-answer.invariant in
-    let both = going_short _ _ _ _ _ _ l.0 l.1 c.in_default.ensures.cases c.loop-answer.answer-index in
-    record { value = both.0; answers_after = both.1 }
+    going_short _ _ _ _ _ _ l.0 l.1 c.in_default.ensures.cases c.loop-answer.answer-index
 
 pub returns-in_default-call_of : goal.returns-in_default-call_of
 returns-in_default-call_of c =
     let l = c.loop-answer.invariant in
-    let both = going_other _ _ _ _ _ _ l.0 l.1 c.in-Some.ensures.cases.0 c.in_default-call_of.ensures c.loop-answer.answer-index in
-    record { value = both.0; answers_after = both.1 }
+    going_other _ _ _ _ _ _ l.0 l.1 c.in-Some.ensures.cases.0 c.in_default-call_of.ensures c.loop-answer.answer-index
 
 pub returns-after-loop-answer : goal.returns-after-loop-answer
 returns-after-loop-answer c =
     let l = c.loop-answer.invariant in
-    let both = going_full _ _ _ _ _ _ l.0 (omega arith) in
-    record { value = both.0; answers_after = both.1 }
+    going_full _ _ _ _ _ _ l.0 (omega arith)
