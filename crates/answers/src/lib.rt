@@ -129,19 +129,6 @@ impl fmt::Display for Refusal {
     }
 }
 
-// What a program prints of an answer: number, place and word (docs/FORMATS.md). Every number that a call answers is a refusal's.
-impl fmt::Display for Answer {
-    fn fmt<W: fmt::Write>(&self, f: &mut fmt::Formatter<W>) -> fmt::Result {
-        match *self {
-            Answer::Done => f.write_str("0 0 done"),
-            Answer::Refused { number, place } => {
-                let word = Refusal::try_from(number).unwrap_or(Refusal::Length);
-                write!(f, "{number} {place} {word}")
-            }
-        }
-    }
-}
-
 // The number that an answer has in the papers, 0 for done.
 pub fn number_of(answer: Answer) -> u8
     ensures { result ≡ number_of answer }

@@ -66,7 +66,7 @@ fn run_file(rt: &impl Print, file: &[u8]) -> io::Result<()> {
         Ok(()) => Ok(()),
         Err(Stop::Refused { call, answer }) => {
             print!(rt; "{call}: ")?;
-            wording::say_answer(rt, answer)
+            wording::say_answer(rt, answers::number_of(answer), answers::place_of(answer))
         }
         Err(Stop::Unwritten(error)) => Err(error),
     }
