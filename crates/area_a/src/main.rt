@@ -83,6 +83,6 @@ fn run_named<R: Env + Files + Input + Print + Eprint>(rt: &R) -> io::Result<()> 
 // Where the output cannot be written nothing more is printed, and the program says so and ends.
 fn main(rt: HostRuntime) {
     if run_named(&rt).is_err() {
-        console::say_unwritten(&rt, "area_a");
+        console::say_unwritten(&rt.stderr(), b"area_a");
     }
 }

@@ -38,6 +38,7 @@ pub fn read_input<R: Read>(input: &mut R, buffer: &mut [u8]) -> Input
 }
 
 // What a program says where its output could not be written.
-pub fn say_unwritten(rt: &impl Eprint, program: &str) {
-    let _ = eprintln!(rt; "{program}: the output could not be written");
+pub fn say_unwritten(stderr: &impl Print, program: &[u8]) {
+    let _ = stderr.write_all(program);
+    let _ = stderr.write_all(b": the output could not be written\n");
 }
