@@ -178,14 +178,14 @@ uint8_t rbu_write(const struct rbu_area *area, uint8_t *buffer, size_t buffer_le
 // The stack that a call of each function takes, in bytes. No theorem bounds it: it is measured, on a painted stack, with lists of
 // thousands of calls and every answer among them. The figures have a quarter to spare; the tests measure it again and hold them to it
 // (.ci/stack.c). RBU_STACK_CALL is for each function of a running unit but rbu_start and rbu_write.
-#define RBU_STACK_START 17408
-#define RBU_STACK_CALL 11264
-#define RBU_STACK_WRITE 13312
-#define RBU_STACK_LOAD 14336
-#define RBU_STACK_VIEW 14336
+#define RBU_STACK_START 15360
+#define RBU_STACK_CALL 8192
+#define RBU_STACK_WRITE 10240
+#define RBU_STACK_LOAD 12288
+#define RBU_STACK_VIEW 12288
 #define RBU_STACK_RUN_FILE 34816
-#define RBU_STACK_RUN_RECORD 32768
-#define RBU_STACK_SOUND 14336
+#define RBU_STACK_RUN_RECORD 29696
+#define RBU_STACK_SOUND 17408
 #define RBU_STACK_REPORT_RECORD 17408
 #define RBU_STACK_WRITE_RECORD 14336
 #define RBU_STACK_BRAKING_DISTANCE 1024
