@@ -34,26 +34,33 @@ module _
   -- what the contract says
   abbrev pub RunTold : List ℕ → Type 0
   RunTold state =
-      (ran.calls ≡ (file_ran_of file script (length old)).calls)
-      × ((answers ≡ file_written file script old)
-      × ((state ≡ (if is_done (loaded file).answer then state_into (file_ran_of file script (length old)).area before else before))
-      × (((n ≡ number_of (loaded file).answer) × (p ≡ place_of (loaded file).answer))
-      × ((number_of (loaded file).answer ≡ 0 → Continues file before state (file_ran_of file script (length old)).area)
-      × (number_of (loaded file).answer ≡ 0 → Separated (decoded file) (file_world file script (length old)))))))
+      record {
+        value : ran.calls ≡ (file_ran_of file script (length old)).calls;
+        answers_after : answers ≡ file_written file script old;
+        state_after : state ≡ (if is_done (loaded file).answer then state_into (file_ran_of file script (length old)).area before else before);
+        number_after : (n ≡ number_of (loaded file).answer) × (p ≡ place_of (loaded file).answer);
+        continues : number_of (loaded file).answer ≡ 0 → Continues file before state (file_ran_of file script (length old)).area;
+        separated : number_of (loaded file).answer ≡ 0 → Separated (decoded file) (file_world file script (length old));
+      }
 
   answer : ran.answer ≡ (loaded file).answer
-  answer = ap (λ (x : FileRan). x.answer) found.0 ∙ file_answer file script (length old)
+  answer = ap (λ (x : FileRan). x.answer) found.value ∙ file_answer file script (length old)
 
   apart : number_of (loaded file).answer ≡ 0 → Separated (decoded file) (file_world file script (length old))
-  apart z = found.1.1 (ap number_of answer ∙ z)
+  apart z = found.separated (ap number_of answer ∙ z)
 
   told :
       (state : List ℕ) → state ≡ (if is_done (loaded file).answer then state_into (file_ran_of file script (length old)).area before else before)
       → (number_of (loaded file).answer ≡ 0 → Continues file before state (file_ran_of file script (length old)).area) → RunTold state
-  told state e more = (
-    ap (λ (x : FileRan). x.calls) found.0,
-    (found.1.0, (e, ((number ∙ ap number_of answer, place ∙ ap place_of answer), (more, apart)))),
-  )
+  told state e more =
+      record {
+        value = ap (λ (x : FileRan). x.calls) found.value;
+        answers_after = found.answers_after;
+        state_after = e;
+        number_after = (number ∙ ap number_of answer, place ∙ ap place_of answer);
+        continues = more;
+        separated = apart;
+      }
 
   -- the tables of the record after the calls are the file's
   tables_after : number_of (loaded file).answer ≡ 0 → (file_ran_of file script (length old)).area.tables ≡ decoded file
@@ -64,10 +71,10 @@ module _
 
   pub told_done : n ≡ 0 → (state : List ℕ) → (state ≡ state_into ran.area before) × ReadsBack ran.area before state → RunTold state
   told_done z state (e, back) =
-      let ran-area = ap (λ (x : FileRan). x.area) found.0 in
+      let ran-area = ap (λ (x : FileRan). x.area) found.value in
       told state
       (if_case (λ (s : List ℕ). state ≡ s) (is_done (loaded file).answer)
-      (λ _. e ∙ ap (λ (x : FileRan). state_into x.area before) found.0)
+      (λ _. e ∙ ap (λ (x : FileRan). state_into x.area before) found.value)
       (λ no. not_both _ (eq-eqb _ 0 (sym (number ∙ ap number_of answer) ∙ z)) no))
       (λ d size room. back file size (ap (λ (a : Area). a.tables) ran-area ∙ tables_after d) room ∙ ran-area)
 
@@ -86,14 +93,19 @@ tables_ran file script before room size =
 pub record_told :
     (file script old before : List ℕ) (a : Area) → a ≡ record_of file before → (ran : Ran) → ran ≡ ran_of a script (length old)
     → (answers : List ℕ) → answers ≡ written a script old → (state : List ℕ) → (state ≡ state_into ran.area before) × ReadsBack ran.area before state
-    → (ran.calls ≡ (ran_of (record_of file before) script (length old)).calls)
-    × ((answers ≡ written (record_of file before) script old)
-    × ((state ≡ state_into (ran_of (record_of file before) script (length old)).area before)
-    × Continues file before state (ran_of (record_of file before) script (length old)).area))
+    → record {
+      value : ran.calls ≡ (ran_of (record_of file before) script (length old)).calls;
+      answers_after : answers ≡ written (record_of file before) script old;
+      state_after : state ≡ state_into (ran_of (record_of file before) script (length old)).area before;
+      continues : Continues file before state (ran_of (record_of file before) script (length old)).area;
+    }
 record_told file script old before a e ran f answers g state (h, back) =
     let same : ran ≡ ran_of (record_of file before) script (length old) = rw e at f in
     let area = ap (λ (x : Ran). x.area) same in
-    let tables : length file ≡ file_size → ran.area.tables ≡ decoded file = λ size. rw area (tables_ran file script before (length old) size) in (
-      ap (λ (x : Ran). x.calls) same,
-      (rw e at g, (h ∙ ap (λ (x : Area). state_into x before) area, λ size room. back file size (tables size) room ∙ area)),
-    )
+    let tables : length file ≡ file_size → ran.area.tables ≡ decoded file = λ size. rw area (tables_ran file script before (length old) size) in
+    record {
+      value = ap (λ (x : Ran). x.calls) same;
+      answers_after = rw e at g;
+      state_after = h ∙ ap (λ (x : Area). state_into x before) area;
+      continues = λ size room. back file size (tables size) room ∙ area;
+    }

@@ -197,11 +197,14 @@ module _ (s old : List ℕ) (a₀ : Area) (answers : List ℕ) (a : Area) (k : �
 module _ (file script old : List ℕ) where
   abbrev pub FileRun : FileRan → List ℕ → Type 0
   FileRun r answers =
-      (r ≡ file_ran_of file script (length old))
-      × ((answers ≡ file_written file script old) × (number_of r.answer ≡ 0 → Separated (decoded file) (file_world file script (length old))))
+      record {
+        value : r ≡ file_ran_of file script (length old);
+        answers_after : answers ≡ file_written file script old;
+        separated : number_of r.answer ≡ 0 → Separated (decoded file) (file_world file script (length old));
+      }
 
   refused_run : (number_of (loaded file).answer ≡ 0 → ⊥) → FileRun (record { answer = (loaded file).answer; area = (loaded file).area; calls = 0 }) old
-  refused_run h = let e = ne_eqb _ 0 h in (rw e, (rw e, λ z. absurd (h z)))
+  refused_run h = let e = ne_eqb _ 0 h in record { value = rw e; answers_after = rw e; separated = λ z. absurd (h z) }
 
   done_run :
       number_of (loaded file).answer ≡ 0
@@ -209,7 +212,7 @@ module _ (file script old : List ℕ) where
       (record { answer = (loaded file).answer; area = (world_of (loaded file).area script (length old)).area; calls = length (ran_calls script (length old)) })
       (written (loaded file).area script old)
   unfolding after
-  done_run z = let e = eq-eqb _ 0 z in (rw e, (rw e, λ _. demand3 file z (ran_calls script (length old))))
+  done_run z = let e = eq-eqb _ 0 z in record { value = rw e; answers_after = rw e; separated = λ _. demand3 file z (ran_calls script (length old)) }
 
   -- from what the code found
   module _ (o : Outcome) (p : o ≡ loaded file) where

@@ -4,7 +4,5 @@ use Rattle.rbu.proofs.rbu_run_record.Goals as goal
 
 pub returns : goal.returns
 returns c =
-    let told =
     record_told c.args.file.now c.args.script.now c.args.answers.now c.args.state.now c.record_of.result c.record_of.ensures _
-    c.run-run.ensures.value _ c.run-run.ensures.answers_after _ (c.write_state.ensures.buffer_after, c.write_state.ensures.reads_back) in
-    record { value = told.0; answers_after = told.1.0; state_after = told.1.1.0; continues = told.1.1.1 }
+    c.run-run.ensures.value _ c.run-run.ensures.answers_after _ (c.write_state.ensures.buffer_after, c.write_state.ensures.reads_back)

@@ -3,12 +3,8 @@ use Rattle.runs.proofs.Laws.{file_refused, file_run}
 use Rattle.runs.proofs.run_file.Goals as goal
 
 pub returns-in-Refused : goal.returns-in-Refused
-returns-in-Refused c =
-    let all = file_refused _ _ c.args.answers.now _ c.load-answer.ensures c.in-Refused.is in
-    record { value = all.0; answers_after = all.1.0; separated = all.1.1 }
+returns-in-Refused c = file_refused _ _ c.args.answers.now _ c.load-answer.ensures c.in-Refused.is
 
 pub returns : goal.returns
 returns c =
-    let all =
-    file_run _ _ c.args.answers.now _ c.load-answer.ensures c.in_default.is _ c.run-ran.ensures.value _ c.run-ran.ensures.answers_after in
-    record { value = all.0; answers_after = all.1.0; separated = all.1.1 }
+    file_run _ _ c.args.answers.now _ c.load-answer.ensures c.in_default.is _ c.run-ran.ensures.value _ c.run-ran.ensures.answers_after
