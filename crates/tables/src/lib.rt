@@ -62,17 +62,11 @@ pub fn second_link(links: &[u8; 124], s: u8) -> u8
     entry(links, 2 * s as usize, 0)
 }
 
-// One test of the segment's number for both links, which are then read straight: every call asks this of every link and place.
 #[tactic(auto, unfolding(crate::specs::Tables::links_to))]
 pub fn links_to(links: &[u8; 124], s: u8, n: u8) -> bool
     ensures { result ≡ links_to links.now s n }
 {
-    if (1..=MOST_SEGMENTS).contains(&s) {
-        let i = 2 * (s as usize) - 2;
-        links[i] == n || links[i + 1] == n
-    } else {
-        first_link(links, s) == n || second_link(links, s) == n
-    }
+    first_link(links, s) == n || second_link(links, s) == n
 }
 
 impl Tables {
