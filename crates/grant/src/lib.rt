@@ -1,7 +1,7 @@
 // What becomes of the trains and of the allocations at grant.
 #![tactic(auto)]
 
-ghost use Rattle.std.specs.Prelude.{◌≡◌, ◌||◌, eqb, if◌then◌else◌};
+ghost use Rattle.std.specs.Prelude.{◌≡◌, ◌||◌, if◌then◌else◌};
 ghost use Rattle.lists.specs.Words.{at, each, tabulate};
 ghost use Rattle.trains.specs.Order.{goes_before};
 ghost use Rattle.trains.specs.Grant.{asked, train_count, served, granted, was_granted, count_after, calmed};

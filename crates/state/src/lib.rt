@@ -3,9 +3,8 @@
 
 ghost use Rattle.std.specs.Prelude.{◌≡◌, ◌≤◌, ℕ, List};
 ghost use Rattle.std.specs.List.{flat_map};
-ghost use Rattle.file.specs.Bytes.{put_at};
 ghost use Rattle.trains.specs.Train.{most_trains};
-ghost use Rattle.state.specs.State.{train_bytes, train_rows, head_size, head_bytes, state_into, tables_of, train_of, record_of, ReadsBack};
+ghost use Rattle.state.specs.State.{train_bytes, train_rows, head_bytes, state_into, tables_of, train_of, record_of, ReadsBack};
 
 use area::Area;
 use decoding::decode;

@@ -2,7 +2,7 @@
 #![tactic(auto)]
 
 ghost use Rattle.std.specs.Prelude.{◌≡◌};
-ghost use Rattle.trains.specs.Train.{off, is_on, entered, with_speed, asking, with_asking, answered, moved_to, train_at};
+ghost use Rattle.trains.specs.Train.{off, is_on, entered, with_speed, with_asking, answered, moved_to, train_at};
 ghost use Rattle.trains.specs.Cycle.{wants};
 
 use lists::entry;
