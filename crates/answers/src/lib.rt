@@ -2,7 +2,7 @@
 #![tactic(auto)]
 
 ghost use Rattle.std.specs.Prelude.{◌≡◌};
-ghost use Rattle.answers.specs.Answers.{number_of, place_of};
+ghost use Rattle.answers.specs.Answers.{answer_of, number_of, place_of};
 ghost use Rattle.answers.specs.Refusals.{refusal_number, Numbered};
 
 use std::fmt;
@@ -53,13 +53,11 @@ impl Refusal {
     }
 
     // The answer that gives it, at a place; 0 is no place.
+    #[tactic(auto, using(crate::proofs::Refusals::refused_answer))]
     pub fn at(self, place: u16) -> Answer
         ensures { result ≡ Answer.Refused (refusal_number self) place }
     {
-        Answer::Refused {
-            number: self.number(),
-            place,
-        }
+        answer_of(self.number(), place)
     }
 }
 
@@ -126,6 +124,18 @@ impl fmt::Display for Refusal {
             Refusal::Buffer => "buffer",
             Refusal::Length => "length",
         })
+    }
+}
+
+// The answer of any number, a refusal's or not; 0 is done.
+#[tactic(auto, unfolding(crate::specs::Answers::answer_of))]
+pub fn answer_of(number: u8, place: u16) -> Answer
+    ensures { result ≡ answer_of number place }
+{
+    if number == 0 {
+        Answer::Done
+    } else {
+        Answer::Refused { number, place }
     }
 }
 

@@ -37,7 +37,7 @@ fn is_reserved(file: &File, s: u8) -> bool
     requires { s ≤ 62 }
     ensures { result ≡ reserved file.now s }
 {
-    let start = segment_start(s as usize);
+    let start = segment_start(s.saturating_sub(1) as usize);
     are_zeros(segment_block(file, s as u16), start + 11, start + 15)
 }
 

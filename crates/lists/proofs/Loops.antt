@@ -4,13 +4,13 @@
 --     the first number that fails      invariant  Scanned n p i          scan-begin, scan-more, scan-found, scan-over
 --     an array filled entry by entry   invariant  Made n f l old i new   make-begin, make-more, make-over
 --     a fold over the entries          foldl f b (take i l)              fold_more
-use Rattle.std.specs.Prelude.{if◌then◌else◌, Option}
+use Rattle.std.specs.Prelude.{if◌then◌else◌, Option, None}
 use Rattle.std.specs.Option.{is_some}
 use mathlib.Core.Path.{◌≡◌, refl, sym, ap, ◌∙◌}
 use mathlib.Core.List.{List, [], ◌∷◌, foldl, foldl-append}
 use mathlib.Core.Logic.{⊎_elim}
 use mathlib.Core.Bool.{Bool, true, false, not, ◌&&◌, and-true, and-false, and_assoc}
-use Prim.Native.Nat.{ℕ, zero, suc, ◌+◌, ◌≤◌, ◌<◌}
+use Prim.Native.Nat.{ℕ, zero, suc, ◌+◌, ◌-◌, ◌≤◌, ◌<◌}
 use native.Mathlib.Nat.{le_of_suc-le-suc, not-suc-le-zero, eq-or-lt_of_le}
 use native.Mathlib.Numerals.{add-one}
 use native.Mathlib.Omega.{arith}
@@ -189,6 +189,15 @@ module _ {n i : ℕ} {ok : ℕ → Bool} (scanned : Scanned n ok i) where
 
     pub scan_found : not r ≡ true → i + 1 ≡ first_failing n ok
     scan_found e = sym (failing_found ok n i scanned.none below (test_fails found e))
+
+-- the scan counts from 0, and the numbers from 1: none of them fails, where the last was passed, or was looked at last
+pub none_after : {n k : ℕ} {ok : ℕ → Bool} → Scanned n ok (k - 1) → (k ≤ n → ⊥) → None ≡ found (first_failing n ok)
+none_after s h = rw (sym (scan_over s (omega arith))) refl
+
+pub none_last : {n k : ℕ} {ok : ℕ → Bool} {r : Bool} → Scanned n ok (k - 1) → 1 ≤ k → k ≤ n → (k < n → ⊥) → r ≡ ok k → r ≡ true → None ≡ found (first_failing n ok)
+none_last {n} {k} s low top high e t =
+    let one : k - 1 + 1 ≡ k = omega arith in
+    rw (sym (scan_over (scan_more s (omega arith) (rw one e) (ap not t)) (omega arith))) refl
 
 module _ {A B : Type 0} where
   -- the first n entries of `each f l`, and after them those of `old`: an array that is being filled

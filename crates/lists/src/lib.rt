@@ -62,6 +62,7 @@ pub fn tabulate<U: Copy + Default, const N: usize, F: Fn(u16) -> U>(f: F) -> [U;
 }
 
 // The first of the numbers 1 to n for which the test fails.
+#[tactic(auto, using(crate::proofs::Loops::none_after, crate::proofs::Loops::none_last))]
 pub fn first_failing<F: Fn(u8) -> bool>(n: u8, ok: F) -> Option<u8>
     requires { (k : ℕ) → 1 ≤ k → k ≤ n → F.pre ok k }
     ensures { (p : ℕ → Bool) → ((k : ℕ) (b : Bool) → F.post ok k b → b ≡ p k) → result ≡ found (first_failing n p) }

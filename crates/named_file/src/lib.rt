@@ -1,7 +1,7 @@
 // The area file that a program is to run: the one that its argument names, or standard input where it has no argument.
 #![tactic(auto)]
 
-ghost use Rattle.std.specs.Prelude.{◌≡◌, ◌≤◌, length, take, IfOk};
+ghost use Rattle.std.specs.Prelude.{◌≡◌, ◌≤◌, length, take, MatchResult};
 
 use arrayvec::ArrayString;
 use std::env::{Env, FillError};
@@ -12,6 +12,20 @@ use std::rt::Files;
 
 // Room for a file and one byte more, so that a longer one is seen to be longer.
 pub const ROOM: usize = 2561;
+
+// Why the input could not be read to its end, and how many bytes of the buffer were read before that.
+#[derive(Clone, Copy)]
+pub struct Unread {
+    pub count: usize,
+    pub reason: io::Error,
+}
+
+// Nothing was read, and why.
+fn nothing_read(reason: io::Error) -> Unread
+    ensures { result.count ≡ 0 }
+{
+    Unread { count: 0, reason }
+}
 
 // The system's words for an error: std puts its number after them, as in `No such file or directory (os error 2)`.
 fn words_of(text: &str) -> &str {
@@ -33,25 +47,30 @@ fn read_opened<F: Read>(
     file: &mut F,
     name: &str,
     buffer: &mut [u8],
-) -> io::Result<usize>
-    ensures in_bounds { IfOk result (λ n. n ≤ length buffer.new) }
-    ensures counts { IfOk result (λ n. n ≡ length (take n buffer.new)) }
+) -> Result<usize, Unread>
+    ensures in_bounds { MatchResult result (λ n. n ≤ length buffer.new) (λ e. e.count ≤ length buffer.new) }
+    ensures counts { MatchResult result (λ n. n ≡ length (take n buffer.new)) (λ e. e.count ≡ length (take e.count buffer.new)) }
 {
     let input = console::read_input(file, buffer);
     match input.failed {
         None => Ok(input.count),
         Some(reason) => {
             fail(rt, name, &reason);
-            Err(reason)
+            Err(Unread {
+                count: input.count,
+                reason,
+            })
         }
     }
 }
 
-fn read_named<R: Files + Eprint>(rt: &R, name: &str, buffer: &mut [u8]) -> io::Result<usize>
-    ensures in_bounds { IfOk result (λ n. n ≤ length buffer.new) }
-    ensures counts { IfOk result (λ n. n ≡ length (take n buffer.new)) }
+fn read_named<R: Files + Eprint>(rt: &R, name: &str, buffer: &mut [u8]) -> Result<usize, Unread>
+    ensures in_bounds { MatchResult result (λ n. n ≤ length buffer.new) (λ e. e.count ≤ length buffer.new) }
+    ensures counts { MatchResult result (λ n. n ≡ length (take n buffer.new)) (λ e. e.count ≡ length (take e.count buffer.new)) }
 {
-    let mut file = fs::open(rt, name).inspect_err(|reason| fail(rt, name, reason))?;
+    let mut file = fs::open(rt, name)
+        .inspect_err(|reason| fail(rt, name, reason))
+        .map_err(nothing_read)?;
     read_opened(rt, &mut file, name, buffer)
 }
 
@@ -67,12 +86,14 @@ fn argument<'a>(rt: &impl Env, name: &'a mut [u8]) -> io::Result<&'a str> {
     ))
 }
 
-fn read_argument<R: Env + Files + Eprint>(rt: &R, buffer: &mut [u8]) -> io::Result<usize>
-    ensures in_bounds { IfOk result (λ n. n ≤ length buffer.new) }
-    ensures counts { IfOk result (λ n. n ≡ length (take n buffer.new)) }
+fn read_argument<R: Env + Files + Eprint>(rt: &R, buffer: &mut [u8]) -> Result<usize, Unread>
+    ensures in_bounds { MatchResult result (λ n. n ≤ length buffer.new) (λ e. e.count ≤ length buffer.new) }
+    ensures counts { MatchResult result (λ n. n ≡ length (take n buffer.new)) (λ e. e.count ≡ length (take e.count buffer.new)) }
 {
     let mut name = [0u8; 4096];
-    let name = argument(rt, &mut name).inspect_err(|reason| fail(rt, "the file's name", reason))?;
+    let name = argument(rt, &mut name)
+        .inspect_err(|reason| fail(rt, "the file's name", reason))
+        .map_err(nothing_read)?;
     read_named(rt, name, buffer)
 }
 
@@ -81,9 +102,9 @@ fn has_argument(rt: &impl Env, i: usize) -> bool {
 }
 
 // Reads the file to its end or until the buffer is full. Where it cannot be read, standard error has the reason.
-pub fn read<R: Env + Files + io::Input + Eprint>(rt: &R, buffer: &mut [u8]) -> io::Result<usize>
-    ensures in_bounds { IfOk result (λ n. n ≤ length buffer.new) }
-    ensures counts { IfOk result (λ n. n ≡ length (take n buffer.new)) }
+pub fn read<R: Env + Files + io::Input + Eprint>(rt: &R, buffer: &mut [u8]) -> Result<usize, Unread>
+    ensures in_bounds { MatchResult result (λ n. n ≤ length buffer.new) (λ e. e.count ≤ length buffer.new) }
+    ensures counts { MatchResult result (λ n. n ≡ length (take n buffer.new)) (λ e. e.count ≡ length (take e.count buffer.new)) }
 {
     if !has_argument(rt, 1) {
         return read_opened(rt, &mut rt.reader(), "standard input", buffer);
@@ -94,7 +115,7 @@ pub fn read<R: Env + Files + io::Input + Eprint>(rt: &R, buffer: &mut [u8]) -> i
             "name one file, or none to read standard input",
         );
         let _ = eprintln!(rt; "{reason}");
-        return Err(reason);
+        return Err(nothing_read(reason));
     }
     read_argument(rt, buffer)
 }

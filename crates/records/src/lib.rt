@@ -3,7 +3,7 @@
 
 ghost use Rattle.std.specs.Prelude.{◌≡◌, ◌≤◌, ◌&&◌, leb};
 ghost use Rattle.tables.specs.Bounds.{bounds};
-ghost use Rattle.tables.specs.Rules.{header_ok, margin_ok, links_ok, used_ok, segment_ok};
+ghost use Rattle.tables.specs.Rules.{header_ok, margin_ok, links_ok, used_ok, row_ok, segment_ok};
 
 use tables::{FASTEST, LONGEST, MOST_ROUTES, MOST_SEGMENTS, Segment, Tables};
 
@@ -42,27 +42,33 @@ fn links_ok(n: u8, first: u8, second: u8) -> bool
 
 // Of tables handed in nothing is known, so the sum is of 64 bits.
 #[tactic(auto, unfolding(tables::specs::Rules::used_ok))]
-fn used_ok(t: &Tables, s: Segment) -> bool
-    ensures { result ≡ used_ok bounds t.now.segments t.now.gmax t.now.margin s }
+fn used_ok(n: u8, gmax: u16, margin: u32, s: Segment) -> bool
+    ensures { result ≡ used_ok bounds n gmax margin s }
 {
-    let shortest = u64::from(t.margin) + u64::from(t.gmax);
+    let shortest = u64::from(margin) + u64::from(gmax);
     (shortest < u64::from(s.length))
         & (s.length <= LONGEST)
-        & (1..=t.gmax).contains(&s.limit)
-        & links_ok(t.segments, s.next1, s.next2)
-        & links_ok(t.segments, s.previous1, s.previous2)
+        & (1..=gmax).contains(&s.limit)
+        & links_ok(n, s.next1, s.next2)
+        & links_ok(n, s.previous1, s.previous2)
         & (s.flags <= 3)
 }
 
-// What is kept of segment record k; a record above the last segment is all zero.
+// What is kept of segment record k, whatever the number and the record; a record above the last segment is all zero.
 #[tactic(auto, unfolding(tables::specs::Rules::row_ok, tables::specs::Rules::unused_ok))]
-pub fn segment_ok(t: &Tables, k: u8) -> bool
-    ensures { result ≡ segment_ok bounds t.now k }
+pub fn row_ok(n: u8, gmax: u16, margin: u32, k: u8, s: Segment) -> bool
+    ensures { result ≡ row_ok bounds n gmax margin k s }
 {
-    let s = t.segment(k);
-    if k <= t.segments {
-        used_ok(t, s)
+    if k <= n {
+        used_ok(n, gmax, margin, s)
     } else {
         s == Segment::default()
     }
+}
+
+// What the tables keep of segment record k.
+pub fn segment_ok(t: &Tables, k: u8) -> bool
+    ensures { result ≡ segment_ok bounds t.now k }
+{
+    row_ok(t.segments, t.gmax, t.margin, k, t.segment(k))
 }

@@ -1,15 +1,11 @@
-use Rattle.std.proofs.Common.{refl, sym, ap, arith, ℕ, suc, zero, ◌≡◌, ◌+◌, ◌-◌, ◌≤◌, true, Some, None, not-suc-le-zero, Bool, not}
-use Rattle.lists.proofs.Loops.{Scanned, scan_begin, scan_more, scan_found, scan_over}
+use Rattle.std.proofs.Common.{refl, sym, ap, arith, ℕ, suc, zero, ◌≡◌, ◌+◌, ◌-◌, ◌≤◌, true, Some, not-suc-le-zero, Bool, not}
+use Rattle.lists.proofs.Loops.{Scanned, scan_begin, scan_more, scan_found}
 use Rattle.lists.specs.Words.{found}
 use Rattle.lists.proofs.first_failing.Goals as goal
-use Rattle.lists.proofs.first_failing.Goals.{else-loop-k-test, then-loop-k-test+else-not-ok+else-k-n}
 
 some_found : (k m : ℕ) → 1 ≤ k → k ≡ m → Some k ≡ found m
 some_found zero m h e = absurd (not-suc-le-zero h)
 some_found (suc k) m h e = rw (sym e) refl
-
-none_found : (m : ℕ) → 0 ≡ m → None ≡ found m
-none_found m e = rw (sym e) refl
 
 -- the scan counts from 0
 scanned_on : {n k : ℕ} {p : ℕ → Bool} {r : Bool} → Scanned n p (k - 1) → 1 ≤ k → k ≤ n → r ≡ p k → r ≡ true → Scanned n p k
@@ -28,11 +24,4 @@ returns-then-not-ok g c = λ p e.
 pub loop-k-preserved : goal.loop-k-preserved
 loop-k-preserved g c = λ p e.
     let one : c.loop-k.k + 1 - 1 ≡ c.loop-k.k = omega arith in
-    rw one (scanned_on (c.loop-k.invariant p e) c.loop-k.auto.k c.loop-k-test.true (e _ _ c.ok.ensures) c.if-not-ok.false)
-
-pub returns : goal.returns
-returns g c = λ p e.
-    elim c.loop-k-test.branch [
-      | else-loop-k-test w ↦ none_found _ (scan_over (c.loop-k.invariant p e) (omega arith))
-      | then-loop-k-test+else-not-ok+else-k-n w ↦ none_found _ (scan_over (scanned_on (c.loop-k.invariant p e) c.loop-k.auto.k w.loop-k-test.true (e _ _ w.ok.ensures) w.if-not-ok.false) (omega arith))
-    ]
+    rw one (scanned_on (c.loop-k.invariant p e) c.loop-k.auto.k (omega (arith, c.loop-k-test.true)) (e _ _ c.ok.ensures) c.if-not-ok.false)
