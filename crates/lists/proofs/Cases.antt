@@ -1,12 +1,13 @@
 -- Laws of tests: a split that keeps the test's equation, and the parts of a conjunction and of a disjunction.
 use Rattle.std.specs.Prelude.{if◌then◌else◌}
-use Prim.Native.Nat.{ℕ, ◌≤◌, ◌<◌}
+use Prim.Native.Nat.{ℕ, zero, suc, ◌≤◌, ◌<◌}
 use mathlib.Core.Path.{◌≡◌, refl, sym, ◌∙◌}
 use mathlib.Core.Logic.{◌⊎◌, inl, inr, ◌↔◌}
 use mathlib.Core.Bool.{Bool, true, false, not, ◌&&◌, ◌||◌, and-eq-true_iff}
 use native.Mathlib.Omega.{arith}
 use lib.Dec.{leb, ltb, eqb}
-use borrow.Author.Tests.{ltb-true, ltb-false, leb-true, leb-false, eqb-true, eqb-false, le-leb, lt-leb, eq-eqb, not-true, not-false}
+use borrow.Author.Tests.{ltb-true, ltb-false, leb-true, leb-false, eqb-true, eqb-false, le-leb, lt-leb, eq-eqb, ne_eqb, not-true, not-false}
+use Rattle.lists.specs.Words.{◌or_else◌}
 
 -- a fact of a choice, from the two cases with the test's equation
 pub if_case : {A : Type 0} {a b : A} (P : A → Type 0) (t : Bool) → (t ≡ true → P a) → (t ≡ false → P b) → P (if t then a else b)
@@ -74,3 +75,14 @@ pub either_yes : (a b : Bool) → (a ≡ true) ⊎ (b ≡ true) → (a || b) ≡
 either_yes true b w = refl
 either_yes false b (inl e) = not_both false e refl
 either_yes false b (inr e) = e
+
+-- a, or b where a is 0
+pub or_first : (a b : ℕ) → (a ≡ 0 → ⊥) → a ≡ a or_else b
+or_first zero b h = absurd (h refl)
+or_first (suc a) b h = refl
+
+pub or_second : (a b : ℕ) → a ≡ 0 → b ≡ a or_else b
+or_second a b e = rw e
+
+pub or_if : (a b : ℕ) → a or_else b ≡ (if eqb a 0 then b else a)
+or_if a b = cases (eq_or_ne a 0) (λ e. rw (eq-eqb a 0 e) (sym (or_second a b e))) (λ n. rw (ne_eqb a 0 n) (sym (or_first a b n)))

@@ -6,11 +6,12 @@ use mathlib.Core.Path.{◌≡◌, refl}
 use mathlib.Core.Bool.{Bool, true, false, not}
 use mathlib.Core.List.{List, [], ◌∷◌, reverse, reverse-cons}
 use native.Mathlib.Nat.{pow-suc}
-use native.Mathlib.Numerals.{add-one}
+use native.Mathlib.Numerals.{add-one, sub-one}
 use native.Mathlib.Omega.{arith}
-use lib.Count.{ones, ones_step, count_trailing_zeros, under}
-use lib.ListN.{length, get_or}
+use lib.Count.{ones, ones_step, ones-le, count_trailing_zeros, trailing_le, under}
+use lib.ListN.{length, drop, get_or, length-drop}
 use lib.Pow.{pow_mono, pow_pos}
+use lib.Seq.{drop-cons, drop-length}
 use Rattle.std.specs.List.{fold}
 use Rattle.std.specs.Int.Bits.{bit_or}
 use Rattle.std.proofs.lemmas.Nat.{or_shifted}
@@ -25,6 +26,9 @@ use Rattle.summary.specs.Word.{bit_of, word_of}
 bit_lt : (h : ℕ) → bit_of h < 2
 unfolding bit_of
 bit_lt h = by_test (is_free h) (λ e. rw e (omega arith)) (λ e. rw e (omega arith))
+
+pub bit_small : (h b : ℕ) → b ≡ bit_of h → b < 2
+bit_small h b e = rw e (bit_lt h)
 
 word_lt : (A : List ℕ) → word_of A < 2 ^ length A
 unfolding word_of
@@ -46,6 +50,23 @@ word_folded [] fits = refl
 word_folded (h ∷ A) fits =
     let w : word_of A < 2 ^ 63 = omega (arith, word_lt A, pow_mono {i = length A} {j = 63} (omega arith)) in
     rw (reverse-cons h A, fold_push with_bit 0 (reverse A) h, word_folded A (omega arith)) (with_bit_is (word_of A) h w)
+
+-- a segment after the other, from the highest to the lowest: none is taken yet, one more is, all are, and the word of those taken fits
+pub word_begin : (A : List ℕ) (n : ℕ) → length A ≡ n → 0 ≡ word_of (drop n A)
+unfolding word_of
+word_begin A n e = rw (← e, drop-length)
+
+pub word_step : (A : List ℕ) (i w b : ℕ) → 0 < i → i ≤ length A → w ≡ word_of (drop i A) → b ≡ bit_of (get_or A (i - 1) 0) → w * 2 + b ≡ word_of (drop (i - 1) A)
+unfolding word_of
+word_step A zero w b p h e q = absurd (omega arith)
+word_step A (suc i) w b p h e q = rw (e, q, sub-one, drop-cons A i 0)
+
+pub word_over : (A : List ℕ) (i w : ℕ) → i ≤ 0 → w ≡ word_of (drop i A) → w ≡ word_of A
+word_over A zero w h e = e
+word_over A (suc i) w h e = absurd (omega arith)
+
+pub word_fits : (A : List ℕ) (i w : ℕ) → length A ≡ 62 → w ≡ word_of (drop i A) → w < 2 ^ 62
+word_fits A i w h e = let m : length (drop i A) ≤ 62 = rw length-drop (omega arith) in omega (arith, word_lt (drop i A), pow_mono m)
 
 -- the ones are the allocated segments
 half : (w b : ℕ) → b < 2 → (w * 2 + b) / 2 ≡ w
@@ -112,6 +133,13 @@ free_at : (A : List ℕ) → is_free (get_or A (taken A) 0) ≡ true
 unfolding taken
 free_at [] = refl
 free_at (h ∷ A) = if_case (λ (t : ℕ). is_free (get_or (h ∷ A) t 0) ≡ true) (is_free h) (λ e. e) (λ e. free_at A)
+
+-- both counts of 64 bits fit a byte
+pub ones_fit : (w : ℕ) → w < 2 ^ 64 → ones w < 256
+ones_fit w h = omega (arith, ones-le 64 w h)
+
+pub zeros_fit : (w : ℕ) → count_trailing_zeros 64 w < 256
+zeros_fit w = omega (arith, trailing_le 64 w)
 
 module _ (A : List ℕ) where
   abbrev pub free_in : ℕ → Bool

@@ -1,7 +1,7 @@
 -- The order of the trains is total, and the foremost of those that pass a test is what its name says.
 use Rattle.std.specs.Prelude.{if◌then◌else◌}
 use Prim.Native.Nat.{ℕ, zero, suc, ◌+◌, ◌≤◌, ◌<◌}
-use mathlib.Core.Path.{◌≡◌}
+use mathlib.Core.Path.{◌≡◌, refl}
 use mathlib.Core.Logic.{◌⊎◌, inl, inr, ◌↔◌}
 use mathlib.Core.Bool.{Bool, true, false, ◌&&◌, ◌||◌}
 use native.Mathlib.Omega.{arith}
@@ -110,3 +110,16 @@ module _
         let some : m ≡ 0 → ⊥ = λ z. not_so (inl (eq-eqb m 0 z)) in
         (omega (arith, some), rw q (is_false (before (suc n) m) (λ z. not_so (inr z)))))
         (λ q. foremost_first n k low (omega arith) e)))
+
+-- orders and tests that agree have the same foremost
+pub foremost_same :
+    (n : ℕ) (b c : ℕ → ℕ → Bool) (p q : ℕ → Bool) → ((t u : ℕ) → b t u ≡ c t u) → ((k : ℕ) → 1 ≤ k → k ≤ n → p k ≡ q k)
+    → foremost b n p ≡ foremost c n q
+unfolding foremost
+foremost_same zero b c p q same agree = refl
+foremost_same (suc n) b c p q same agree =
+    rw (foremost_same n b c p q same (λ k low high. agree k low (omega arith)), agree (suc n) (omega arith) (omega arith), same (suc n) (foremost c n q))
+
+pub before_same : (count other : ℕ → ℕ) → ((t : ℕ) → count t ≡ other t) → (t u : ℕ) → goes_before count t u ≡ goes_before other t u
+unfolding goes_before
+before_same count other same t u = rw (same t, same u)

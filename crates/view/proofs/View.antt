@@ -53,7 +53,7 @@ pub record Shown (file : List ℕ) (r : ℕ) : Type 0 where
   pub short : byte_at file (start_in_file r) ≤ longest_route
   pub counts : count_of (decoded file).routebytes r ≡ byte_at file (start_in_file r)
 
-shown_facts : (file : List ℕ) (r : ℕ) → shown file r ≡ true → Shown file r
+pub shown_facts : (file : List ℕ) (r : ℕ) → shown file r ≡ true → Shown file r
 unfolding shown count_of
 shown_facts file r h =
     let f = simp and_iff at h in
@@ -76,11 +76,11 @@ shown_facts file r h =
     }
 
 module _ (file : List ℕ) (r : ℕ) where
-  view_on : shown file r ≡ true → (view_start file r ≡ start_in_file r + 1) × (view_count file r ≡ byte_at file (start_in_file r))
+  pub view_on : shown file r ≡ true → (view_start file r ≡ start_in_file r + 1) × (view_count file r ≡ byte_at file (start_in_file r))
   unfolding view_start view_count
   view_on h = rw h (refl, refl)
 
-  view_off : shown file r ≡ false → (view_start file r ≡ 0) × (view_count file r ≡ 0)
+  pub view_off : shown file r ≡ false → (view_start file r ≡ 0) × (view_count file r ≡ 0)
   unfolding view_start view_count
   view_off h = rw h (refl, refl)
 
