@@ -4,6 +4,7 @@
 
 use answers::Answer;
 use area::{Area, Outcome};
+use console::say_number;
 use std::env::Env;
 use std::io;
 use std::rt::Files;
@@ -47,7 +48,12 @@ fn run_cycle(area: Area) -> Result<Area, Stop> {
 fn list_train(rt: &impl Print, cycle: u8, area: &Area, train: u8) -> io::Result<()> {
     let x = trains::train_at(&area.trains, train);
     let segment = standing::own_of(&area.tables, x);
-    println!(rt; "{cycle} {train} {segment} {} {}", x.position, x.speed)
+    say_number(rt, b"", u64::from(cycle))?;
+    say_number(rt, b" ", u64::from(train))?;
+    say_number(rt, b" ", u64::from(segment))?;
+    say_number(rt, b" ", u64::from(x.position))?;
+    say_number(rt, b" ", u64::from(x.speed))?;
+    rt.write_all(b"\n")
 }
 
 fn list(rt: &impl Print, file: &[u8]) -> Result<(), Stop> {
@@ -65,7 +71,8 @@ fn run_file(rt: &impl Print, file: &[u8]) -> io::Result<()> {
     match list(rt, file) {
         Ok(()) => Ok(()),
         Err(Stop::Refused { call, answer }) => {
-            print!(rt; "{call}: ")?;
+            rt.write_all(call.as_bytes())?;
+            rt.write_all(b": ")?;
             wording::say_answer(rt, answers::number_of(answer), answers::place_of(answer))
         }
         Err(Stop::Unwritten(error)) => Err(error),

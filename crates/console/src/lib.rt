@@ -1,4 +1,4 @@
-// What every program reads and says: an input to its end, and that its output could not be written.
+// What every program reads and says: an input to its end, a number after a text, and that its output could not be written.
 #![tactic(auto)]
 
 ghost use Rattle.std.specs.Prelude.{◌≡◌, ◌<◌, ◌≤◌, length, take, IsNone};
@@ -35,6 +35,12 @@ pub fn read_input<R: Read>(input: &mut R, buffer: &mut [u8]) -> Input
         }
     }
     Input { count, failed }
+}
+
+// A text and a number after it, which is not printed where the text could not be.
+pub fn say_number(rt: &impl Print, text: &[u8], number: u64) -> io::Result<()> {
+    rt.write_all(text)?;
+    print!(rt; "{number}")
 }
 
 // What a program says where its output could not be written.
