@@ -185,7 +185,7 @@ uint8_t rbu_write(const struct rbu_area *area, uint8_t *buffer, size_t buffer_le
 #define RBU_STACK_VIEW 12288
 #define RBU_STACK_RUN_FILE 34816
 #define RBU_STACK_RUN_RECORD 29696
-#define RBU_STACK_SOUND 17408
+#define RBU_STACK_SOUND 14336
 #define RBU_STACK_REPORT_RECORD 17408
 #define RBU_STACK_WRITE_RECORD 14336
 #define RBU_STACK_BRAKING_DISTANCE 1024
