@@ -75,14 +75,14 @@ half w b h = omega arith
 odd : (w b : ℕ) → b < 2 → (w * 2 + b) % 2 ≡ b
 odd w b h = omega arith
 
-bit_counted : (f : Bool) → ◌≡◌ {A = ℕ} (if not f then 1 else 0) (if f then 0 else 1)
-bit_counted true = refl
-bit_counted false = refl
+bit_counted : (h : ℕ) → bit_of h ≡ (if is_free h then 0 else 1)
+unfolding bit_of
+bit_counted h = by_test (is_free h) (λ e. rw e refl) (λ e. rw e refl)
 
 ones_word : (A : List ℕ) → ones (word_of A) ≡ allocated_in A
-unfolding word_of allocated_in bit_of ones
+unfolding word_of allocated_in ones
 ones_word [] = refl
-ones_word (h ∷ A) = rw (ones_step, odd (word_of A) (bit_of h) (bit_lt h), half (word_of A) (bit_of h) (bit_lt h), ones_word A, bit_counted (is_free h))
+ones_word (h ∷ A) = rw (ones_step, odd (word_of A) (bit_of h) (bit_lt h), half (word_of A) (bit_of h) (bit_lt h), ones_word A, bit_counted h)
 
 pub ones_of : (A : List ℕ) (w : ℕ) → w ≡ word_of A → ones w ≡ allocated_in A
 ones_of A w e = rw e (ones_word A)
@@ -99,17 +99,17 @@ low k w b h g = rw pow-suc (omega arith)
 rest : (k w b : ℕ) → w < 2 ^ k → b < 2 → ((2 ^ suc k - 1) - (w * 2 + b)) / 2 ≡ (2 ^ k - 1) - w
 rest k w b h g = rw pow-suc (omega arith)
 
-under_bit : (f : Bool) (t : ℕ) → under (1 - (if not f then 1 else 0)) t ≡ (if f then 0 else suc t)
+under_bit : (f : Bool) (t : ℕ) → under (1 - (if f then 0 else 1)) t ≡ (if f then 0 else suc t)
 under_bit true t = refl
 under_bit false t = refl
 
 zeros_word : (k : ℕ) (A : List ℕ) → length A < k → count_trailing_zeros k ((2 ^ k - 1) - word_of A) ≡ taken A
-unfolding count_trailing_zeros word_of taken bit_of
+unfolding count_trailing_zeros word_of taken
 zeros_word zero A h = absurd (omega arith)
 zeros_word (suc k) [] h = rw (low k 0 0 (pow_pos k) (omega arith))
 zeros_word (suc k) (a ∷ A) h =
     let w : word_of A < 2 ^ k = omega (arith, word_lt A, pow_mono {i = length A} {j = k} (omega arith)) in
-    rw (low k (word_of A) (bit_of a) w (bit_lt a), rest k (word_of A) (bit_of a) w (bit_lt a), zeros_word k A (omega arith)) (under_bit (is_free a) (taken A))
+    rw (low k (word_of A) (bit_of a) w (bit_lt a), rest k (word_of A) (bit_of a) w (bit_lt a), zeros_word k A (omega arith), bit_counted a) (under_bit (is_free a) (taken A))
 
 pub zeros_of : (A : List ℕ) (w : ℕ) → length A ≡ 62 → w ≡ word_of A → count_trailing_zeros 64 (18446744073709551615 - w) ≡ taken A
 zeros_of A w h e = rw e (zeros_word 64 A (omega arith))
