@@ -22,7 +22,6 @@ use Rattle.trains.specs.GrantFacts.{AsksFor}
 use Rattle.trains.specs.EnterLeave.{first_segment, taken_by, freed_by, becomes}
 use Rattle.trains.proofs.Segments.{occupied_beneath, own_occupied, wanted_ahead}
 use Rattle.trains.proofs.Safety.{TrainOk, frame}
-use Rattle.trains.proofs.SafeSpeed.{speed_ok}
 use Rattle.trains.proofs.SafeRequest.{request_ok}
 use Rattle.trains.proofs.SafeGrant.{grant_ok}
 use Rattle.trains.proofs.SafePosition.{position_ok}
@@ -31,6 +30,7 @@ use Rattle.trains.proofs.Grant.{grant_keeps, grant_asked}
 use Rattle.trains.proofs.Calls.{sped_off, left_freed, others_stay, leaver_freed, others_kept, named_becomes, others_same}
 use Rattle.separation.specs.Runs.{History, put, at_enter, at_leave, at_grant, at_position}
 use Rattle.separation.proofs.Kept.{Kept, route_some, on_same}
+use Rattle.separation.proofs.SafeSpeed.{speed_ok}
 
 -- a train of the list after a step that leaves a train off as it is
 train_each : (f : ℕ → Train → Train) (X : List Train) (t : ℕ) → ((n : ℕ) → f n off ≡ off) → train_at (each f X) t ≡ f t (train_at X t)

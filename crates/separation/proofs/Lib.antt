@@ -1,5 +1,6 @@
 pub mod Lists
 pub mod Kept
+pub mod SafeSpeed
 pub mod Keeping
 pub mod Going
 pub mod Places

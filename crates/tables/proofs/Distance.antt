@@ -1,7 +1,6 @@
--- What later proofs use of an area's braking distance, of tables that meet the rules.
-use Prim.Native.Nat.{ℕ, ◌+◌, ◌-◌, ◌≤◌}
-use mathlib.Core.Path.{◌≡◌}
-use Rattle.braking.proofs.Laws.{S-step, S-above, S-mono}
+-- What later proofs use of an area's braking distance, of tables that meet the rules; its terms are in separation/proofs/SafeSpeed.
+use Prim.Native.Nat.{ℕ, ◌≤◌}
+use Rattle.braking.proofs.Laws.{S-above, S-mono}
 use Rattle.tables.specs.declared.Tables.{Tables}
 use Rattle.tables.specs.Tables.{braking_distance}
 use Rattle.tables.specs.Facts.{Consistent}
@@ -12,7 +11,3 @@ module _ (T : Tables) (K : Consistent T) where
 
   pub distance_above : (v : ℕ) → v ≤ braking_distance T v
   distance_above = S-above T.braking K.rate
-
-  -- after a cycle at speed v, the distance of the speed that a cycle of full braking leaves
-  pub distance_step : (v : ℕ) → braking_distance T v ≡ v + braking_distance T (v - T.braking)
-  distance_step = S-step T.braking K.rate

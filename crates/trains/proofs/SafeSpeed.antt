@@ -8,7 +8,7 @@ use Rattle.lists.proofs.Cases.{if_case, by_test}
 use Rattle.tables.specs.declared.Tables.{Tables}
 use Rattle.tables.specs.Tables.{braking_distance}
 use Rattle.tables.specs.Facts.{Consistent}
-use Rattle.tables.proofs.Distance.{distance_above, distance_step}
+use Rattle.tables.proofs.Distance.{distance_above}
 use Rattle.trains.specs.declared.Train.{Train}
 use Rattle.trains.specs.Due.{speed_due, request_due}
 use Rattle.trains.specs.Train.{with_speed, own_in, own_of, next_in, next_of, own_length, own_limit, next_limit, near, holds_next}
@@ -48,13 +48,6 @@ module _ (T : Tables) (K : Consistent T) where
         let l = K.long (own_of T x) (own_is T K x ok.on_route) in
         omega (arith, leb-false (own_length T x - T.margin) x.position n, in_margin T K x ok.on_route v h)
 
-    new_stops : holds_next T held t x ≡ false → x.position + braking_distance T speed_now < own_length T x
-    unfolding new_speed
-    new_stops o =
-        by_test (near T x)
-        (λ n. rw (n, o) (omega (arith, ok.stops o, run_now (braking_distance T) x.speed, distance_step T K x.speed)))
-        (λ n. far_stops n speed_now new_slow)
-
     new_next : holds_next T held t x ≡ true → own_length T x ≤ x.position + speed_now → speed_now ≤ next_limit T x
     unfolding new_speed
     new_next o h =
@@ -65,9 +58,21 @@ module _ (T : Tables) (K : Consistent T) where
         rw (n, o) (omega (arith, ok.slow)))
         (λ n. absurd (omega (arith, far_stops n speed_now new_slow, distance_above T K speed_now)))
 
-    pub speed_ok : TrainOk T request_due held t (with_speed x speed_now) way got
+    -- where a cycle of full braking takes its speed off the distance; that it does at every speed is said in separation/proofs/SafeSpeed
+    pub stops_by :
+        braking_distance T x.speed ≡ x.speed + braking_distance T (x.speed - T.braking) → holds_next T held t x ≡ false
+        → x.position + braking_distance T speed_now < own_length T x
+    unfolding new_speed
+    stops_by lowered o =
+        by_test (near T x)
+        (λ n. rw (n, o) (omega (arith, ok.stops o, run_now (braking_distance T) x.speed, lowered)))
+        (λ n. far_stops n speed_now new_slow)
+
+    pub ok_by :
+        (holds_next T held t x ≡ false → x.position + braking_distance T speed_now < own_length T x)
+        → TrainOk T request_due held t (with_speed x speed_now) way got
     unfolding own_in next_in
-    speed_ok =
+    ok_by new_stops =
         record {
           on_route = ok.on_route;
           inside = ok.inside;
