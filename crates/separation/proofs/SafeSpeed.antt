@@ -1,5 +1,5 @@
--- Speed keeps what holds of a train on the area. That rests on the law of the braking distance term by term, which stands here, where no
--- code is: no function may sum by it (document 02, R-5).
+-- Speed keeps what holds of a train on the area. That rests on the law of the braking distance term by term, which stands here, in a crate
+-- without code: only the function of `braking` may sum by it (docs/changes/R-5.md).
 use Prim.Native.Nat.{ℕ, ◌+◌, ◌-◌, ◌<◌}
 use mathlib.Core.Path.{◌≡◌}
 use mathlib.Core.Bool.{Bool, false}

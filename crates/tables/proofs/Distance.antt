@@ -1,4 +1,5 @@
--- What later proofs use of an area's braking distance, of tables that meet the rules; its terms are in separation/proofs/SafeSpeed.
+-- What later proofs use of an area's braking distance, of tables that meet the rules. The law of its terms stands in
+-- separation/proofs/SafeSpeed.
 use Prim.Native.Nat.{ℕ, ◌≤◌}
 use Rattle.braking.proofs.Laws.{S-above, S-mono}
 use Rattle.tables.specs.declared.Tables.{Tables}

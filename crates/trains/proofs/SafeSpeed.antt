@@ -1,4 +1,5 @@
--- Speed keeps what holds of a train on the area.
+-- Speed keeps what holds of a train on the area: the parts of the proof. The whole, `speed_ok`, stands in separation/proofs/SafeSpeed,
+-- beside the law of the braking distance that it rests on.
 use Prim.Native.Nat.{ℕ, ◌+◌, ◌-◌, ◌≤◌, ◌<◌, min, max}
 use mathlib.Core.Path.{◌≡◌, refl}
 use mathlib.Core.Bool.{Bool, true, false, not, ◌&&◌, and-eq-true_iff}
@@ -58,7 +59,7 @@ module _ (T : Tables) (K : Consistent T) where
         rw (n, o) (omega (arith, ok.slow)))
         (λ n. absurd (omega (arith, far_stops n speed_now new_slow, distance_above T K speed_now)))
 
-    -- where a cycle of full braking takes its speed off the distance; that it does at every speed is said in separation/proofs/SafeSpeed
+    -- while its next is not allocated to it, it stops within its segment, if S(speed) = speed + S(speed - b) for the braking distance S
     pub stops_by :
         braking_distance T x.speed ≡ x.speed + braking_distance T (x.speed - T.braking) → holds_next T held t x ≡ false
         → x.position + braking_distance T speed_now < own_length T x
@@ -68,6 +69,7 @@ module _ (T : Tables) (K : Consistent T) where
         (λ n. rw (n, o) (omega (arith, ok.stops o, run_now (braking_distance T) x.speed, lowered)))
         (λ n. far_stops n speed_now new_slow)
 
+    -- all of it is kept if, while its next is not allocated to it, it stops within its segment
     pub ok_by :
         (holds_next T held t x ≡ false → x.position + braking_distance T speed_now < own_length T x)
         → TrainOk T request_due held t (with_speed x speed_now) way got
